@@ -1,19 +1,18 @@
 -- A call, a late effect and a raised fence keep agreement, whatever they come to.
-use Rattle.cf_agree.proofs.Effects.{Does, does, makes, sets, takes, keeps, with_props, gone_names, gone_request, set_names, set_request, made_success}
-use Rattle.cf_agree.proofs.Words.{bytes_or, in_either, entry_now, entry_others, live_more, used_still, unused, number_or, one_lane, used_born, unsettled, in_got, in_removed, some_or}
+use Rattle.cf_agree.proofs.Effects.{Does, does, unused, makes, sets, takes, keeps, with_props, gone_names, gone_request, set_names, set_request, made_success}
+use Rattle.cf_agree.proofs.Words.{bytes_or, in_either, entry_now, entry_others, live_more, used_still, number_or, one_lane, used_born, unsettled, in_got, in_removed, some_or}
 use Rattle.cf_agree.specs.{Account.Account, Account.Called, Account.Open, Account.Role, Account.Thing, Account.called_of, Moves.IsOut}
 use Rattle.cf_agree.specs.Account.Role.{Stranger, Resource}
 use Rattle.cf_agree.specs.Base.{settled_at, lane_of, Dict, Made, Set, named_by, gone_by, change_of}
-use Rattle.cf_tree.specs.Lists.{In}
 use Rattle.cf_agree.specs.Lanes.{Lanes, live_in, used_in, settled_under, Replaced, IsThere}
 use Rattle.cf_agree.specs.Ties.{FitsCall, IsAccounted, IsSettledCall, Ties, Books, IsMade, IsGone, IsChanged, IsBorn, IsLost}
-use Rattle.cf_handler.specs.Fence.{FencedLane, Flying, live_at, CallMove, IsStale, LateMove, settled_late, FenceMove, FenceAnswer, Raised, Ahead, Broken, with_flying, raised_to}
+use Rattle.cf_tree.specs.{Lists.In, Named.all_differ}
+use Rattle.cf_tree.specs.declared.{request.Answer.Answer, request.Request.Request, request.Request.TheVariants.Create}
+use Rattle.cf_handler.specs.Fence.{FencedLane, Flying, live_at, CallMove, LateMove, settled_late, FenceMove, FenceAnswer, Raised, Ahead, Broken, with_flying, raised_to}
 use Rattle.cf_handler.specs.Lane.{LaneState, live_of, is_used, live_changed, Live, has_id, settlement_of}
-use Rattle.cf_handler.specs.{Move.IsOfLane, Move.LaneMove, Move.MaySettle, Move.SettlesBy, Move.with_settled, Name.is_lane_name}
 use Rattle.cf_handler.specs.declared.{settled.Settled.Settled, settled.Settlement.Settlement}
 use Rattle.cf_handler.specs.declared.settled.Settlement.TheVariants.{Success, Failed}
-use Rattle.cf_tree.specs.Named.{all_differ}
-use Rattle.cf_tree.specs.declared.{request.Answer.Answer, request.Request.Request, request.Request.TheVariants.Create}
+use Rattle.cf_handler.specs.{Move.IsOfLane, Move.LaneMove, Move.MaySettle, Move.SettlesBy, Move.with_settled, Name.is_lane_name}
 use Rattle.std.proofs.Common.{◌≡◌, ◌≢◌, ◌⊎◌, inl, inr, ℕ, List, true, Some, None, find, refl, sym, ap, subst, ◌∙◌, ◌<◌, ◌≤◌, [], ◌∷◌, ◌++◌, true≢false, map, arith, false, Option, ◌↔◌}
 use Rattle.std.specs.Str.{bytes_eq}
 use Rattle.cf_tree.specs.declared.request.Answer.TheVariants as answer
@@ -54,13 +53,8 @@ pub settling :
 settling n s l' w w' rep more new fits = record {
   kinds = rep.kinds;
   at = ap (λ (l : LaneState). settled_at s.token l.settled) state ∙ entry_now s.token (w.lane n).state.settled s refl new;
-  at_others = each_lane n l' w w' rep (λ m l k. (t : ℕ) → ((m ≢ n) ⊎ (t ≢ s.token)) → settled_at t k.state.settled ≡ settled_at t l.state.settled) (λ t h. elim h [
-    | inl k ↦ absurd (k refl)
-    | inr k ↦ ap (λ (l : LaneState). settled_at t l.settled) more.state ∙ entry_others t (w.lane n).state.settled s k
-  ]) (λ m l t h. refl);
-  members = each_lane n l' w w' rep (λ m l k. (r : Settled) → In r k.state.settled → In r l.state.settled ⊎ ((m ≡ n) × (r ≡ s)))
-      (λ r i. elim (in_either r (w.lane n).state.settled s (subst (λ (l : LaneState). In r l.settled) more.state i)) [ inl j ↦ inl j | inr j ↦ inr (refl, j) ])
-      (λ m l r i. inl i);
+  at_others = λ m t k. grind (arith, bytes_or m n, rep.at, rep.others m, entry_others t (w.lane n).state.settled s, state);
+  members = λ m r i. grind (arith, bytes_or m n, rep.at, rep.others m, in_either r (w.lane n).state.settled s, state);
   bases = each_lane n l' w w' rep (λ m l k. k.state.base ≡ l.state.base) (ap (λ (l : LaneState). l.base) more.state) (λ m l. refl);
   flies = each_lane n l' w w' rep (λ m l k. (f : Flying) → In f k.flying → In f l.flying) more.flies (λ m l f i. i);
   fences = each_lane n l' w w' rep (λ m l k. k.fence ≡ l.fence) more.fence (λ m l. refl);
@@ -137,11 +131,7 @@ module _ (a x : Account) (w w' : Lanes) (h : Ties a w) (al : Alike w w') where
     changed = λ t o s i p q d k. let (v, y, z, r) = h.changed t o s i p q (back t o s d) k in (v, lives o.lane i ∙ y, z, r);
     born = λ t o s i k p q d e. let z = h.born t o s i k p q (back t o s d) e in (lives o.lane i ∙ z.0, z.1);
     live_named = λ m i v l. h.live_named m i v (sym (lives m i) ∙ l);
-    listed = λ m i v l. elim (h.listed m i v (sym (lives m i) ∙ l)) [
-      | inl y ↦ inl y
-      | inr (inl (t, o, s, d, e)) ↦ inr (inl (t, o, s, forth t o s d, e))
-      | inr (inr (t, n, s, y, z, e)) ↦ inr (inr (t, n, s, y, entries n t ∙ z, e))
-    ];
+    listed = λ m i v l. grind (arith, h.listed m i v, lives m i, forth, entries);
   }
     where
       back : (t : ℕ) (o : Open) (s : Settled) → IsSettledCall telling w' t o s → IsSettledCall a w t o s
@@ -164,7 +154,7 @@ module _ (a : Account) (n : List ℕ) (l : FencedLane) (w w' : Lanes) (h : Ties 
   ties_raised flies lower low = ties_flying a w w' h alike (record {
     fences = λ m. each_lane n l w w' rep (λ m k x. k.fence ≤ a.epoch → x.fence ≤ a.epoch) (λ z. low) (λ m k z. z) m (h.fences m);
     calls = λ m f i. h.flying_calls m f (was m f i);
-    opens = λ m f i e k. h.flying_open m f (was m f i) e (lower_at m f.epoch k);
+    opens = λ m f i e k. h.flying_open m f (was m f i) e (grind arith);
     epochs = λ m f i. h.flying_epochs m f (was m f i);
     at_rest = λ m f o i. h.flying_at_rest m f o (was m f i);
   })
@@ -172,26 +162,14 @@ module _ (a : Account) (n : List ℕ) (l : FencedLane) (w w' : Lanes) (h : Ties 
       was : (m : List ℕ) (f : Flying) → In f (w'.lane m).flying → In f (w.lane m).flying
       was = each_lane n l w w' rep (λ m k x. (f : Flying) → In f x.flying → In f k.flying) flies (λ m k f i. i)
 
-      lower_at : (m : List ℕ) (c : ℕ) → (w'.lane m).fence ≤ c → (w.lane m).fence ≤ c
-      lower_at m c k = grind arith
-
   -- one call more flies, of a token that is out
   pub ties_flown : (f : Flying) → l.flying ≡ (w.lane n).flying ++ f ∷ [] → l.fence ≡ (w.lane n).fence → IsOut a n f.token f.request → f.epoch ≤ a.epoch → Ties a w'
   ties_flown f flies same out low = ties_flying a w w' h alike (record {
     fences = λ m. subst (λ c. c ≤ a.epoch) (sym (fence m)) (h.fences m);
-    calls = λ m g i. elim (flown_or m g i) [
-      | inl j ↦ h.flying_calls m g j
-      | inr j ↦ subst (λ k. FitsCall a k g.token g.request) (sym j.0) (subst (λ (x : Flying). FitsCall a n x.token x.request) (sym j.1) out.own)
-    ];
-    opens = λ m g i e k. elim (flown_or m g i) [
-      | inl j ↦ h.flying_open m g j e (subst (λ c. c ≤ g.epoch) (fence m) k)
-      | inr j ↦ subst (λ (x : Flying). IsAccounted a x.token x.request) (sym j.1) out.accounted
-    ];
+    calls = λ m g i. grind (arith, flown_or m g i, h.flying_calls m g);
+    opens = λ m g i e k. grind (arith, flown_or m g i, fence m, h.flying_open m g);
     epochs = λ m g i. elim (flown_or m g i) [ inl j ↦ h.flying_epochs m g j | inr j ↦ subst (λ (x : Flying). x.epoch ≤ a.epoch) (sym j.1) low ];
-    at_rest = λ m g o i e op re. elim (flown_or m g i) [
-      | inl j ↦ h.flying_at_rest m g o j e op re
-      | inr j ↦ (let z = out.going o (subst (λ (x : Flying). a.open_ x.token ≡ Some o) j.1 op) in absurd (true≢false (sym re ∙ z)))
-    ];
+    at_rest = λ m g o i e op re. grind (arith, flown_or m g i, h.flying_at_rest m g o);
   })
     where
       fence : (m : List ℕ) → (w'.lane m).fence ≡ (w.lane m).fence
@@ -207,8 +185,7 @@ module _ (a : Account) (n : List ℕ) (l : FencedLane) (w w' : Lanes) (h : Ties 
 pub may_make :
     (n : List ℕ) (l : LaneState) (r : Request) (x : Settlement) (i k : List ℕ) (p t : Dict) → MaySettle n l r x → change_of r x ≡ Made i k p t
     → IsOfLane n i × (is_used i l ≡ false)
-may_make n l (Create k' p') (Success j t') i k p t m e = let z : j ≡ i = cc in (subst (λ q. IsOfLane n q) z m.0, subst (λ q. is_used q l ≡ false) z m.2)
-may_make n l r x i k p t m e = let (a, b) = made_success r x i k p t e in absurd (grind arith)
+may_make n l r x i k p t m e = grind (arith, made_success)
 
 -- two open calls of one id are one
 pub one_call :
@@ -225,9 +202,7 @@ module _
     (new : settled_under w n s.token ≡ None) (fits : MaySettle n (w.lane n).state s.request s.settlement) (there : IsThere w n)
     (own : FitsCall a n s.token s.request) (mine : IsAccounted a s.token s.request) where
   old_or_new : (m : List ℕ) (t : ℕ) (r : Settled) → settled_under w' m t ≡ Some r → (settled_under w m t ≡ Some r) ⊎ ((m ≡ n) × (t ≡ s.token) × (r ≡ s))
-  old_or_new m t r e = go (bytes_or m n) (number_or t s.token) where
-    go : (m ≡ n) ⊎ (m ≢ n) → (t ≡ s.token) ⊎ (t ≢ s.token) → (settled_under w m t ≡ Some r) ⊎ ((m ≡ n) × (t ≡ s.token) × (r ≡ s))
-    go v0 y = grind arith
+  old_or_new m t r e = grind (arith, bytes_or m n, number_or t s.token, f.at, f.at_others m t)
 
   kept : (m : List ℕ) (t : ℕ) (r : Settled) → settled_under w m t ≡ Some r → settled_under w' m t ≡ Some r
   kept m t r e = grind arith
@@ -235,50 +210,13 @@ module _
   unsettled' : (m : List ℕ) (t : ℕ) → settled_under w' m t ≡ None → settled_under w m t ≡ None
   unsettled' m t e = elim (some_or (settled_under w m t)) [ inl k ↦ k | inr k ↦ (let g = kept m t k.0 k.1 in absurd (cc)) ]
 
-  gone_kept : (i : List ℕ) → IsGone a w i → IsGone a w' i
-  gone_kept i (t, o, r, (p, q), d) = (t, o, r, (p, kept o.lane t r q), d)
-
-  changed_kept : (i : List ℕ) → IsChanged a w i → IsChanged a w' i
-  changed_kept i (t, o, r, x, y, (p, q), d) = (t, o, r, x, y, (p, kept o.lane t r q), d)
-
-  born_kept : (i : List ℕ) → IsBorn a w i → IsBorn a w' i
-  born_kept i (t, o, r, (p, q), d) = (t, o, r, (p, kept o.lane t r q), d)
-
-  lost_kept : (i : List ℕ) → IsLost a w i → IsLost a w' i
-  lost_kept i (t, m, r, p, q, d) = (t, m, r, p, kept m t r q, d)
-
-  -- what the call left of what is live under an id of a lane
-  data Leaving (m i : List ℕ) : Type 0 where
-    born_there : m ≡ n → IsMade s i → Leaving m i
-    set_there : (p t : Dict) (v : Live) → change_of s.request s.settlement ≡ Set i p t → live_in w m i ≡ Some v
-        → live_in w' m i ≡ Some (with_props v p t) → Leaving m i
-    gone_there : gone_by s.request s.settlement ≡ Some i → live_in w' m i ≡ None → Leaving m i
-    left_there : (m ≡ n → gone_by s.request s.settlement ≢ Some i) → live_in w' m i ≡ live_in w m i → Leaving m i
-
-  leaving : (m i : List ℕ) → Leaving m i
-  leaving m i = elim (bytes_or m n) [
-    | inl e ↦ at_home e (subst (λ k. Does s.request s.settlement i (live_in w k i) (live_in w' k i)) (sym e) (f.does i))
-    | inr e ↦ left_there (λ k. absurd (e k)) (f.lives_others m i e)
-  ]
-    where
-      at_home : m ≡ n → Does s.request s.settlement i (live_in w m i) (live_in w' m i) → Leaving m i
-      at_home e (makes k p t c l) = born_there e (k, p, t, c)
-      at_home e (sets p t v c l l') = set_there p t v c l l'
-      at_home e (takes c l) = gone_there c l
-      at_home e (keeps c c' c'' l) = left_there (λ k. c'') l
-
-  name_is : is_lane_name n ≡ true
-  name_is = h.lane_names n there
-
-  made_new : (i : List ℕ) → IsMade s i → (lane_of i ≡ n) × (used_in w n i ≡ false)
-  made_new i (k, p, t, e) = let m = may_make n (w.lane n).state s.request s.settlement i k p t fits e in (one_lane n i name_is m.0, m.1)
-
-  made_named : (i : List ℕ) → IsMade s i → IsOfLane n i
-  made_named i (k, p, t, e) = (may_make n (w.lane n).state s.request s.settlement i k p t fits e).0
+  made_new : (i : List ℕ) → IsMade s i → (lane_of i ≡ n) × IsOfLane n i × (used_in w n i ≡ false)
+  made_new i (k, p, t, e) = let m = may_make n (w.lane n).state s.request s.settlement i k p t fits e in
+      (one_lane n i (h.lane_names n there) m.0, m.0, m.1)
 
   -- what was used isn't made
   not_made : (i : List ℕ) → used_in w (lane_of i) i ≡ true → IsMade s i → ⊥
-  not_made i u m = let z = made_new i m in true≢false (sym (subst (λ k. used_in w k i ≡ true) z.0 u) ∙ z.1)
+  not_made i u m = let z = made_new i m in true≢false (sym (subst (λ k. used_in w k i ≡ true) z.0 u) ∙ z.2)
 
   resource_there : (i : List ℕ) (r : Thing) → a.role i ≡ Resource r → IsThere w (lane_of i)
   resource_there i r e = (r.kind, h.handed (lane_of i) r.kind (b.homes i r e).1)
@@ -286,48 +224,35 @@ module _
   resource_used : (i : List ℕ) (r : Thing) → a.role i ≡ Resource r → used_in w (lane_of i) i ≡ true
   resource_used i r e = h.known i (λ k. absurd (cc)) (resource_there i r e)
 
-  fit_open : (o : Open) → a.open_ s.token ≡ Some o → (o.lane ≡ n) × (o.request ≡ s.request)
-  fit_open o e = own.written (called_of o) (b.calls s.token o e)
-
   -- a settled request that names a resource is that of an open call
   named_open : (i : List ℕ) (r : Thing) → a.role i ≡ Resource r → named_by s.request ≡ Some i → (o : Open) × (a.open_ s.token ≡ Some o) × (lane_of i ≡ n)
   named_open i r e d = grind arith
 
   settled_now : (o : Open) → a.open_ s.token ≡ Some o → IsSettledCall a w' s.token o s
-  settled_now o x = (x, subst (λ m. settled_under w' m s.token ≡ Some s) (sym (fit_open o x).0) f.at)
-
-  is_gone : (i : List ℕ) (r : Thing) → a.role i ≡ Resource r → gone_by s.request s.settlement ≡ Some i → IsGone a w' i
-  is_gone i r e d = let o = named_open i r e (gone_names s.request s.settlement i d) in (s.token, o.0, s, settled_now o.0 o.1, d)
+  settled_now o x = (x, subst (λ m. settled_under w' m s.token ≡ Some s) (sym (own.written (called_of o) (b.calls s.token o x)).0) f.at)
 
   is_changed : (i : List ℕ) (r : Thing) (p t : Dict) → a.role i ≡ Resource r → change_of s.request s.settlement ≡ Set i p t → IsChanged a w' i
   is_changed i r p t e d = let o = named_open i r e (set_names s.request s.settlement i p t d) in (s.token, o.0, s, p, t, settled_now o.0 o.1, d)
 
   gone : (i : List ℕ) (r : Thing) → a.role i ≡ Resource r → IsGone a w' i → live_in w' (lane_of i) i ≡ None
-  gone i r e (t, o, q, (y, z), d) = go (leaving (lane_of i) i) (old_or_new o.lane t q z) where
-    go : Leaving (lane_of i) i → (settled_under w o.lane t ≡ Some q) ⊎ ((o.lane ≡ n) × (t ≡ s.token) × (q ≡ s)) → live_in w' (lane_of i) i ≡ None
-    go (born_there at m) x = absurd (not_made i (resource_used i r e) m)
-    go (set_there p t' v c l l') (inl k) = let g = h.gone i r e (t, o, q, (y, k), d) in absurd (cc)
-    go (set_there p t' v c l l') (inr k) = grind (arith, gone_request, set_request)
-    go (gone_there c l) x = l
-    go (left_there c l) (inl k) = l ∙ h.gone i r e (t, o, q, (y, k), d)
-    go (left_there c l) (inr k) = grind (arith, named_open, gone_names)
+  gone i r e (t, o, q, (y, z), d) =
+      let did = f.does i in let others = f.lives_others (lane_of i) i in let used = resource_used i r e in let was = h.gone i r e in
+      grind (arith, bytes_or (lane_of i) n, old_or_new o.lane t q z, not_made i, gone_request, set_request, named_open, gone_names)
 
   alive : (i : List ℕ) (r : Thing) → a.role i ≡ Resource r → (IsGone a w' i → ⊥) → (v : Live) × (live_in w' (lane_of i) i ≡ Some v) × (v.kind ≡ r.kind)
-  alive i r e g = go (leaving (lane_of i) i) (h.alive i r e (resource_there i r e) (λ k. g (gone_kept i k))) where
-    go : Leaving (lane_of i) i → (v : Live) × (live_in w (lane_of i) i ≡ Some v) × (v.kind ≡ r.kind) → (v : Live) × (live_in w' (lane_of i) i ≡ Some v) × (v.kind ≡ r.kind)
-    go v0 was = grind (arith, not_made, resource_used, with_props, is_gone)
+  alive i r e g = go (h.alive i r e (resource_there i r e) (λ (t, o, q, (y, z), d). g (t, o, q, (y, kept o.lane t q z), d))) where
+    go : (v : Live) × (live_in w (lane_of i) i ≡ Some v) × (v.kind ≡ r.kind)
+        → (v : Live) × (live_in w' (lane_of i) i ≡ Some v) × (v.kind ≡ r.kind)
+    go was = let did = f.does i in let others = f.lives_others (lane_of i) i in
+        grind (arith, bytes_or (lane_of i) n, not_made, resource_used, with_props, named_open, gone_names, s, settled_now)
 
   same : (i : List ℕ) (r : Thing) (v : Live) → a.role i ≡ Resource r → r.sure ≡ true → (IsChanged a w' i → ⊥) → live_in w' (lane_of i) i ≡ Some v → (v.props ≡ r.props) × (v.attrs ≡ r.attrs)
-  same i r v e su g l = h.same i r v e su (λ k. g (changed_kept i k)) (elim (leaving (lane_of i) i) [
-    | born_there at m ↦ absurd (not_made i (resource_used i r e) m)
-    | set_there p t v' c l' l'' ↦ absurd (g (is_changed i r p t e c))
-    | gone_there c l' ↦ absurd (cc)
-    | left_there c l' ↦ sym l' ∙ l
-  ])
+  same i r v e su g l = h.same i r v e su (λ (t, o, q, p, u, (y, z), d). g (t, o, q, p, u, (y, kept o.lane t q z), d))
+      (grind (arith, bytes_or (lane_of i) n, f.does i, f.lives_others (lane_of i) i, not_made i, resource_used i r e, is_changed i r))
 
   -- an id that was used, and that the call doesn't name, isn't touched
   untouched : (i : List ℕ) → used_in w (lane_of i) i ≡ true → named_by s.request ≢ Some i → live_in w' (lane_of i) i ≡ live_in w (lane_of i) i
-  untouched i u ns = grind (arith, leaving, not_made, set_names, gone_names)
+  untouched i u ns = grind (arith, bytes_or (lane_of i) n, f.does i, f.lives_others (lane_of i) i, not_made i, set_names, gone_names)
 
   -- what was settled before isn't the new call's token
   apart : (t : ℕ) (o : Open) (r : Settled) → IsSettledCall a w t o r → t ≢ s.token
@@ -340,13 +265,8 @@ module _
 
     on_old : settled_under w o.lane t ≡ Some q → (v : Live) × (live_in w' o.lane i ≡ Some v) × (v.props ≡ p) × (v.attrs ≡ u)
     on_old k =
-        let nm : named_by o.request ≡ Some i = ap named_by (request_of a w b h t o q (y, k)) ∙ set_names q.request q.settlement i p u d in
-        let (r, e, x, z) = b.named t o i y nm in
-        let ns : named_by s.request ≢ Some i = λ c.
-        let (v, g, l) = named_open i r e c in
-        apart t o q (y, k) (one_call a b t s.token o v i y g nm (ap named_by (fit_open v g).1 ∙ c)) in
-        let was = h.changed t o q i p u (y, k) d in
-        (was.0, subst (λ m. live_in w' m i ≡ live_in w m i) (b.home t o i y nm) (untouched i (resource_used i r e) ns) ∙ was.1, was.2, was.3)
+        let asked = request_of a w b h t o q (y, k) in let was = h.changed t o q i p u (y, k) d in let other = apart t o q (y, k) in
+        grind (arith, set_names, b.named t o i, named_open i, one_call a b t s.token o, b.home t o i, untouched i, resource_used i)
 
     go : (settled_under w o.lane t ≡ Some q) ⊎ ((o.lane ≡ n) × (t ≡ s.token) × (q ≡ s)) → (v : Live) × (live_in w' o.lane i ≡ Some v) × (v.props ≡ p) × (v.attrs ≡ u)
     go (inl k) = on_old k
@@ -354,14 +274,8 @@ module _
         let v = on_new (subst (λ (x : Settled). change_of x.request x.settlement ≡ Set i p u) k.2 d) (f.does i) in
         (v.0, ap (λ m. live_in w' m i) k.0 ∙ v.1, v.2, v.3)
 
-  role_or : (r : Role) → (r ≡ Stranger) ⊎ (r ≢ Stranger)
-  role_or r = grind arith
-
   stranger_if_made : (i : List ℕ) → IsMade s i → a.role i ≡ Stranger
-  stranger_if_made i m = grind (arith, role_or, not_made, made_new)
-
-  not_named : (i : List ℕ) → a.role i ≡ Stranger → named_by s.request ≡ Some i → ⊥
-  not_named i x e = grind arith
+  stranger_if_made i m = grind (arith, not_made, made_new)
 
   entry_used : (m : List ℕ) (t : ℕ) (q : Settled) (i : List ℕ) → settled_under w m t ≡ Some q → IsMade q i → used_in w (lane_of i) i ≡ true
   entry_used m t q i e (k, p, u, d) =
@@ -379,38 +293,28 @@ module _
     go (inl e) =
         let was = h.born t o q i k p u (y, e) d in
         let hm = (h.created_named o.lane i t q e (k, p, u, d)).0 in
-        (subst (λ m. live_in w' m i ≡ live_in w m i) hm (untouched i (entry_used o.lane t q i e (k, p, u, d)) (λ x. not_named i was.1 x)) ∙ was.0, was.1)
+        let role = was.1 in
+        (subst (λ m. live_in w' m i ≡ live_in w m i) hm (untouched i (entry_used o.lane t q i e (k, p, u, d)) (λ x. grind arith)) ∙ was.0, was.1)
     go (inr e) = grind (arith, on_new, does, stranger_if_made)
 
   created_once : (m i : List ℕ) (t u : ℕ) (r q : Settled) → settled_under w' m t ≡ Some r → settled_under w' m u ≡ Some q → IsMade r i → IsMade q i → t ≡ u
-  created_once m i t u r q e e' d d' = go (old_or_new m t r e) (old_or_new m u q e') where
-    go : (settled_under w m t ≡ Some r) ⊎ ((m ≡ n) × (t ≡ s.token) × (r ≡ s)) → (settled_under w m u ≡ Some q) ⊎ ((m ≡ n) × (u ≡ s.token) × (q ≡ s)) → t ≡ u
-    go (inl k) (inl k') = h.created_once m i t u r q k k' d d'
-    go (inr k) (inr k') = k.1 ∙ sym k'.1
-    go (inl k) (inr k') = absurd (not_made i (entry_used m t r i k d) (subst (λ (x : Settled). IsMade x i) k'.2 d'))
-    go (inr k) (inl k') = absurd (not_made i (entry_used m u q i k' d') (subst (λ (x : Settled). IsMade x i) k.2 d))
+  created_once m i t u r q e e' d d' = grind (arith, old_or_new m t r e, old_or_new m u q e', h.created_once m i t u r q, not_made i, entry_used)
 
   made_by : (i : List ℕ) → IsMade s i → IsBorn a w' i ⊎ IsLost a w' i
   made_by i d = grind arith
 
   listed : (m i : List ℕ) (v : Live) → live_in w' m i ≡ Some v → (a.role i ≢ Stranger) ⊎ IsBorn a w' i ⊎ IsLost a w' i
-  listed m i v l = elim (leaving m i) [
-    | born_there at k ↦ inr (made_by i k)
-    | set_there p t v' c l' l'' ↦ was v' l'
-    | gone_there c l' ↦ absurd (cc)
-    | left_there c l' ↦ was v (sym l' ∙ l)
-  ]
+  listed m i v l = grind (arith, bytes_or m n, f.does i, f.lives_others m i, made_by i, was)
     where
       was : (u : Live) → live_in w m i ≡ Some u → (a.role i ≢ Stranger) ⊎ IsBorn a w' i ⊎ IsLost a w' i
-      was u e = elim (h.listed m i u e) [ inl x ↦ inl x | inr (inl y) ↦ inr (inl (born_kept i y)) | inr (inr y) ↦ inr (inr (lost_kept i y)) ]
+      was u e = elim (h.listed m i u e) [
+        | inl x ↦ inl x
+        | inr (inl (t, o, q, (y, z), d)) ↦ inr (inl (t, o, q, (y, kept o.lane t q z), d))
+        | inr (inr (t, k, q, y, z, d)) ↦ inr (inr (t, k, q, y, kept k t q z, d))
+      ]
 
   live_named : (m i : List ℕ) (v : Live) → live_in w' m i ≡ Some v → lane_of i ≡ m
-  live_named m i v l = elim (leaving m i) [
-    | born_there at k ↦ (made_new i k).0 ∙ sym at
-    | set_there p t v' c l' l'' ↦ h.live_named m i v' l'
-    | gone_there c l' ↦ absurd (cc)
-    | left_there c l' ↦ h.live_named m i v (sym l' ∙ l)
-  ]
+  live_named m i v l = grind (arith, bytes_or m n, f.does i, f.lives_others m i, made_new i, h.live_named m i)
 
   there_before : (m : List ℕ) → IsThere w' m → IsThere w m
   there_before m (k, e) = (k, sym (f.kinds m) ∙ e)
@@ -419,21 +323,12 @@ module _
   ties_settled = record {
     handed = λ m k e. f.kinds m ∙ h.handed m k e;
     lane_names = λ m e. h.lane_names m (there_before m e);
-    settled_once = λ m r i. elim (f.members m r i) [
-      | inl j ↦ kept m r.token r (h.settled_once m r j)
-      | inr j ↦ subst (λ k. settled_under w' k r.token ≡ Some r) (sym j.0) (subst (λ (q : Settled). settled_under w' n q.token ≡ Some q) (sym j.1) f.at)
-    ];
+    settled_once = λ m r i. grind (arith, kept, f.members m r i, h.settled_once m r, f.at);
     base_once = λ m. subst (λ vs. all_differ bytes_eq (map (λ (v : Live). v.id) vs) ≡ true) (sym (f.bases m)) (h.base_once m);
     base_named = λ m i e. h.base_named m i (subst (λ vs. has_id i vs ≡ true) (f.bases m) e);
-    created_named = λ m i t r e d. elim (old_or_new m t r e) [
-      | inl k ↦ h.created_named m i t r k d
-      | inr k ↦ (let d' = subst (λ (x : Settled). IsMade x i) k.2 d in ((made_new i d').0 ∙ sym k.0, subst (λ j. IsOfLane j i) (sym k.0) (made_named i d')))
-    ];
+    created_named = λ m i t r e d. grind (arith, old_or_new m t r e, made_new, h.created_named m i t r);
     created_once = created_once;
-    settled_calls = λ m t r e. elim (old_or_new m t r e) [
-      | inl k ↦ h.settled_calls m t r k
-      | inr k ↦ subst (λ j. FitsCall a j t r.request) (sym k.0) (subst (λ j. FitsCall a n j r.request) (sym k.1) (subst (λ (x : Settled). FitsCall a n s.token x.request) (sym k.2) own))
-    ];
+    settled_calls = λ m t r e. grind (arith, old_or_new m t r e, h.settled_calls m t r);
     flying_calls = λ m g i. h.flying_calls m g (f.flies m g i);
     answers = λ t x c e k z. let (r, y, q) = h.answers t x c e k (there_before c.lane z) in (r, kept c.lane t r y, q);
     flying_open = λ m g i e k. h.flying_open m g (f.flies m g i) (unsettled' m g.token e) (subst (λ c. c ≤ g.epoch) (f.fences m) k);
@@ -495,23 +390,13 @@ module _ (a : Account) (n : List ℕ) (w w' : Lanes) (b : Books a) (h : Ties a w
     pub ties_called : (x : Answer) → CallMove n (w.lane n) l' a.epoch t r x → Ties a w'
     ties_called x m = by_leaving (leaves n (w.lane n) l' a.epoch t r x m)
 
-  -- a call that is stale
-  pub ties_stale : (fence : ℕ) → IsStale (w.lane n) l' a.epoch fence → Ties a w'
-  ties_stale fence m = ties_alone m.2
+  by_raising : (w.lane n).fence ≤ a.epoch → l' ≡ raised_to (w.lane n) a.epoch → Ties a w'
+  by_raising k e = ties_raised a n l' w w' h rep (ap (λ (x : FencedLane). x.state) e) (λ f i. subst (λ (x : FencedLane). In f x.flying) e i)
+      (subst (λ (x : FencedLane). (w.lane n).fence ≤ x.fence) (sym e) k) (subst (λ (x : FencedLane). x.fence ≤ a.epoch) (sym e) (omega arith))
 
   -- a fence is raised, is ahead, or broke off
   pub ties_fenced : (x : FenceAnswer) (count counted : ℕ) → FenceMove (w.lane n) l' a.epoch x count counted → Ties a w'
-  ties_fenced Raised c c' m = by_raising m.0 m.1
-    where
-      by_raising : (w.lane n).fence < a.epoch → l' ≡ raised_to (w.lane n) a.epoch → Ties a w'
-      by_raising k e = ties_raised a n l' w w' h rep (ap (λ (x : FencedLane). x.state) e) (λ f i. subst (λ (x : FencedLane). In f x.flying) e i)
-          (subst (λ (x : FencedLane). (w.lane n).fence ≤ x.fence) (sym e) (omega arith)) (subst (λ (x : FencedLane). x.fence ≤ a.epoch) (sym e) (omega arith))
-  ties_fenced (Ahead fence) c c' m = ties_alone m.2
-  ties_fenced Broken c c' m = elim m.2 [
-    | inl e ↦ ties_alone e
-    | inr e ↦ ties_raised a n l' w w' h rep (ap (λ (x : FencedLane). x.state) e) (λ f i. subst (λ (x : FencedLane). In f x.flying) e i)
-        (let k = m.1 in subst (λ (x : FencedLane). (w.lane n).fence ≤ x.fence) (sym e) (omega arith)) (subst (λ (x : FencedLane). x.fence ≤ a.epoch) (sym e) (omega arith))
-  ]
+  ties_fenced v0 c c' m = grind (arith, by_raising, ties_alone)
 
 module _ (a : Account) (n : List ℕ) (w w' : Lanes) (b : Books a) (h : Ties a w) (there' : IsThere w n) (place : ℕ) (x : Settlement) (l' : FencedLane) (rep : Replaced n l' w w') where
   -- a late effect

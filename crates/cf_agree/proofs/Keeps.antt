@@ -6,18 +6,17 @@ use Rattle.cf_agree.proofs.Words.{bytes_or, if_same, if_other, number_or, at_sam
 use Rattle.cf_agree.specs.Account.{Thing, Role, Open, Account, made_thing, set_thing, role_after, creates, Called, called_of, intended, answered, dropped, is_open_create}
 use Rattle.cf_agree.specs.Account.Role.{Stranger, Resource, Leftover}
 use Rattle.cf_agree.specs.Base.{Dict, Made, Set, named_by, gone_by, change_of, lane_of, settled_at}
-use Rattle.cf_tree.specs.Lists.{In}
 use Rattle.cf_agree.specs.Lanes.{Lanes, settled_under, IsThere, live_in, used_in, Replaced}
-use Rattle.cf_agree.specs.Laws.{Agrees, CallKeeps, StaleKeeps, LateKeeps, FenceKeeps, OpeningKeeps, RestKeeps, IntentKeeps, AnswerKeeps, ReturnKeeps, DropKeeps}
-use Rattle.cf_handler.specs.Answered.{settlement_in}
 use Rattle.cf_agree.specs.Moves.{MayBeWritten, stays, leaves, doubted, MayDrop, IsOut, CallOut, returned}
 use Rattle.cf_agree.specs.Ties.{Books, Ties, FitsCall, IsSettledCall, IsAccounted, IsMade, IsGone, IsChanged, IsBorn, IsLost, AreTied}
+use Rattle.cf_tree.specs.{Lists.In, declared.request.Answer.Answer, declared.request.Request.Request}
+use Rattle.cf_tree.specs.declared.request.Request.TheVariants.{Create, Update, Delete}
+use Rattle.cf_agree.specs.Laws.{Agrees, CallKeeps, StaleKeeps, LateKeeps, FenceKeeps, OpeningKeeps, RestKeeps, IntentKeeps, AnswerKeeps, ReturnKeeps, DropKeeps}
+use Rattle.cf_handler.specs.Answered.{settlement_in}
 use Rattle.cf_handler.specs.Fence.{Flying, FencedLane, CallMove, FenceMove, FenceAnswer, Raised, Ahead, Broken, settled_late}
-use Rattle.cf_handler.specs.{Lane.LaneState, Lane.Live, Lane.settlement_of, Move.IsOfLane, Move.SettlesBy, Move.with_settled}
 use Rattle.cf_handler.specs.declared.{settled.Settled.Settled, settled.Settlement.Settlement}
 use Rattle.cf_handler.specs.declared.settled.Settlement.TheVariants.{Success, Failed}
-use Rattle.cf_tree.specs.declared.{request.Answer.Answer, request.Request.Request}
-use Rattle.cf_tree.specs.declared.request.Request.TheVariants.{Create, Update, Delete}
+use Rattle.cf_handler.specs.{Lane.LaneState, Lane.Live, Lane.settlement_of, Move.IsOfLane, Move.SettlesBy, Move.with_settled}
 use Rattle.std.proofs.Common.{◌≡◌, ◌≢◌, inl, inr, ℕ, List, true, Some, None, refl, sym, ap, ◌∙◌, ◌⊎◌, ◌+◌, ◌≤◌, Bool, Option, subst, arith, ◌||◌, ◌&&◌, false, true≢false}
 use Rattle.std.specs.Prelude.{cond}
 use Rattle.cf_tree.specs.declared.code.Code.TheVariants as code
@@ -35,24 +34,21 @@ pub data Turns (o : Open) (r : Request) (x : Settlement) (role : List ℕ → Ro
 pub turns : (o : Open) (r : Request) (x : Settlement) (role : List ℕ → Role) (i : List ℕ) → Turns o r x role i
 turns o (Create k p) (Success j t) role i = elim (bytes_or i j) [
   | inl e ↦ makes k p t (ap (λ q. Made q k p t) (sym e)) (if_same i j (Resource (made_thing o k p t)) (role i) e)
-  | inr e ↦ keeps (λ k' p' t' c. let z : j ≡ i = cc in e (sym z)) (λ p' t' c. absurd (cc)) (λ c. absurd (cc)) (if_other i j (Resource (made_thing o k p t)) (role i) e)
+  | inr e ↦ keeps (λ k' p' t' c. e (cc)) (λ p' t' c. absurd (cc)) (λ c. absurd (cc)) (if_other i j _ (role i) e)
 ]
 turns o (Update j p) (Success j' t) role i = elim (bytes_or i j) [
   | inl e ↦ sets p t (ap (λ q. Set q p t) (sym e)) (if_same i j (set_thing p t (role i)) (role i) e)
-  | inr e ↦ keeps (λ k' p' t' c. absurd (cc)) (λ p' t' c. let z : j ≡ i = cc in e (sym z)) (λ c. absurd (cc)) (if_other i j (set_thing p t (role i)) (role i) e)
+  | inr e ↦ keeps (λ k' p' t' c. absurd (cc)) (λ p' t' c. e (cc)) (λ c. absurd (cc)) (if_other i j (set_thing p t (role i)) (role i) e)
 ]
 turns o (Delete j) (Success j' t) role i = elim (bytes_or i j) [
   | inl e ↦ takes (ap Some (sym e)) (if_same i j Stranger (role i) e)
-  | inr e ↦ keeps (λ k' p' t' c. absurd (cc)) (λ p' t' c. absurd (cc)) (λ c. let z : j ≡ i = cc in e (sym z)) (if_other i j Stranger (role i) e)
+  | inr e ↦ keeps (λ k' p' t' c. absurd (cc)) (λ p' t' c. absurd (cc)) (λ c. e (cc)) (if_other i j Stranger (role i) e)
 ]
 turns o (Delete j) (Failed code.NotFound) role i = elim (bytes_or i j) [
   | inl e ↦ takes (ap Some (sym e)) (if_same i j Stranger (role i) e)
-  | inr e ↦ keeps (λ k' p' t' c. absurd (cc)) (λ p' t' c. absurd (cc)) (λ c. let z : j ≡ i = cc in e (sym z)) (if_other i j Stranger (role i) e)
+  | inr e ↦ keeps (λ k' p' t' c. absurd (cc)) (λ p' t' c. absurd (cc)) (λ c. e (cc)) (if_other i j Stranger (role i) e)
 ]
 turns o r x role i = keeps (λ k' p' t' c. absurd (cc)) (λ p' t' c. absurd (cc)) (λ c. absurd (cc)) refl
-
-pub set_role : (p t : Dict) (role : Role) (r : Thing) → role ≡ Resource r → set_thing p t role ≡ Resource (record r { props = p; attrs = t; sure = true })
-set_role p t role r e = ap (set_thing p t) e
 
 pub names_none : (r : Request) → named_by r ≡ None → creates r ≡ true
 names_none r e = grind arith
@@ -63,34 +59,23 @@ names_none r e = grind arith
 pub fits_as : (a : Account) (x : Account) (n : List ℕ) (t : ℕ) (r : Request) → FitsCall a n t r → FitsCall (record x { last = a.last; call = a.call }) n t r
 fits_as a x n t r f = record { number = f.number; written = f.written }
 
-alone_alike : (w : Lanes) → Alike w w
-alone_alike w = record { kinds = λ m. refl; states = λ m. refl }
-
 module _ (a : Account) (w : Lanes) (b : Books a) (h : Ties a w) (o : Open) where
-  low : (t : ℕ) (v : Open) → a.open_ t ≡ Some v → t ≤ a.last
-  low t v e = b.numbers t (called_of v) (b.calls t v e)
-
   pub old : (t : ℕ) (v : Open) → t ≤ a.last → (intended o a).open_ t ≡ Some v → a.open_ t ≡ Some v
   old t v l e = sym (at_other t (a.last + 1) (Some o) (a.open_ t) (λ z. omega arith)) ∙ e
 
-  old_or_new : (t : ℕ) (v : Open) → (intended o a).open_ t ≡ Some v → (a.open_ t ≡ Some v) ⊎ ((t ≡ a.last + 1) × (v ≡ o))
-  old_or_new t v e = grind arith
-
   pub more : (t : ℕ) (v : Open) → a.open_ t ≡ Some v → (intended o a).open_ t ≡ Some v
-  more t v e = let l = low t v e in at_other t (a.last + 1) (Some o) (a.open_ t) (λ z. omega arith) ∙ e
+  more t v e = let l = b.numbers t (called_of v) (b.calls t v e) in at_other t (a.last + 1) (Some o) (a.open_ t) (λ z. omega arith) ∙ e
 
   call_more : (t : ℕ) (c : Called) → a.call t ≡ Some c → (intended o a).call t ≡ Some c
   call_more t c e = let l = b.numbers t c e in at_other t (a.last + 1) (Some (called_of o)) (a.call t) (λ z. omega arith) ∙ e
 
-  pub fits_more : (n : List ℕ) (t : ℕ) (r : Request) → FitsCall a n t r → FitsCall (intended o a) n t r
-  fits_more n t r f = grind arith
-
   pub ties_intended : Ties (intended o a) w
   ties_intended =
-      ties_alike a (intended o a) w w h (alone_alike w) fits_more (λ t v s e. (old t v (h.settled_calls v.lane t s e).number, more t v)) h.handed
+      ties_alike a (intended o a) w w h (record { kinds = λ m. refl; states = λ m. refl }) (λ n t r f. grind arith)
+      (λ t v s e. (old t v (h.settled_calls v.lane t s e).number, more t v)) h.handed
       (λ t x c e k. let (d, y) = b.told_calls t x e in let u = call_more t d y in (e, y ∙ cc)) (record {
         fences = h.fences;
-        calls = λ n f i. fits_more n f.token f.request (h.flying_calls n f i);
+        calls = λ n f i. grind arith;
         opens = λ n f i e k. elim (h.flying_open n f i e k) [ inl x ↦ inl (x.0, more f.token x.0 x.1) | inr x ↦ inr x ];
         epochs = h.flying_epochs;
         at_rest = λ n f v i e k z. h.flying_at_rest n f v i e (old f.token v (h.flying_calls n f i).number k) z;
@@ -134,19 +119,9 @@ module _ (a : Account) (w : Lanes) (b : Books a) (h : Ties a w) (t : ℕ) (o : O
   set_was : (i : List ℕ) (p u : Dict) → change_of s.request s.settlement ≡ Set i p u → (r : Thing) × (a.role i ≡ Resource r) × (r.stack ≡ o.stack) × (r.path ≡ o.path)
   set_was i p u d = b.named t o i is.0 (ap named_by request_is ∙ set_names s.request s.settlement i p u d)
 
-  set_home : (i : List ℕ) (p u : Dict) → change_of s.request s.settlement ≡ Set i p u → lane_of i ≡ o.lane
-  set_home i p u d = b.home t o i is.0 (ap named_by request_is ∙ set_names s.request s.settlement i p u d)
-
-  gone_was : (i : List ℕ) → gone_by s.request s.settlement ≡ Some i → (r : Thing) × (a.role i ≡ Resource r)
-  gone_was i d = let (r, x, y, z) = b.named t o i is.0 (ap named_by request_is ∙ gone_names s.request s.settlement i d) in (r, x)
-
   set_now : (i : List ℕ) (p u : Dict) (r : Thing) → a.role i ≡ Resource r → role_after o s.request s.settlement a.role i ≡ set_thing p u (a.role i)
       → after.role i ≡ Resource (record r { props = p; attrs = u; sure = true })
-  set_now i p u r e k = role_is i ∙ k ∙ set_role p u (a.role i) r e
-
-  -- a call of a token that is not this one is not of an id that this one names
-  not_both : (u : ℕ) (v : Open) (i : List ℕ) → after.open_ u ≡ Some v → named_by v.request ≡ Some i → named_by s.request ≡ Some i → ⊥
-  not_both u v i e x y = let k = open_old u v e in k.0 (one_call a b u t v o i k.1 is.0 x (ap named_by request_is ∙ y))
+  set_now i p u r e k = role_is i ∙ k ∙ (ap (set_thing p u) e)
 
   named : (u : ℕ) (v : Open) (i : List ℕ) → after.open_ u ≡ Some v → named_by v.request ≡ Some i → (r : Thing) × (after.role i ≡ Resource r) × (r.stack ≡ v.stack) × (r.path ≡ v.path)
   named u v i e k = go (turn i) where
@@ -154,23 +129,12 @@ module _ (a : Account) (w : Lanes) (b : Books a) (h : Ties a w) (t : ℕ) (o : O
     before = b.named u v i (open_old u v e).1 k
 
     go : Turns o s.request s.settlement a.role i → (r : Thing) × (after.role i ≡ Resource r) × (r.stack ≡ v.stack) × (r.path ≡ v.path)
-    go v0 = grind (arith, made_was, before, not_both, set_names, gone_names, role_is)
+    go v0 = grind (arith, made_was, before, set_names, gone_names, role_is, open_old, one_call, b, is, request_is)
 
   homes : (i : List ℕ) (r : Thing) → after.role i ≡ Resource r → IsOfLane (lane_of i) i × (a.named (lane_of i) ≡ Some r.kind)
   homes i r e = go (turn i) where
-    at_kind : (k p : List ℕ) → p ≡ k → a.named o.lane ≡ Some p → lane_of i ≡ o.lane → a.named (lane_of i) ≡ Some k
-    at_kind k p x y z = ap a.named z ∙ y ∙ ap Some x
-
     go : Turns o s.request s.settlement a.role i → IsOfLane (lane_of i) i × (a.named (lane_of i) ≡ Some r.kind)
-    go (makes k p c d q) = grind (arith, role_is, request_is, made_success, at_kind)
-    go (sets p c d q) =
-        let (r', x, y, z) = set_was i p c d in
-        let g : Resource (record r' { props = p; attrs = c; sure = true }) ≡ Resource r = sym (set_now i p c r' x q) ∙ e in
-        let f : record r' { props = p; attrs = c; sure = true } ≡ r = cc in
-        let l = b.homes i r' x in
-        (l.0, l.1 ∙ ap (λ (v : Thing). Some v.kind) f)
-    go (takes d q) = let x = role_is i in absurd (cc)
-    go (keeps c c' c'' q) = b.homes i r (sym q ∙ sym (role_is i) ∙ e)
+    go v0 = grind (arith, role_is, request_is, made_success, named, set_was, set_now)
 
   pub books_answered : Books after
   books_answered = record {
@@ -181,8 +145,7 @@ module _ (a : Account) (w : Lanes) (b : Books a) (h : Ties a w) (t : ℕ) (o : O
       | inl k ↦ (called_of o, subst (λ c. a.call c ≡ Some (called_of o)) (sym k) (b.calls t o is.0))
       | inr k ↦ b.told_calls u x (sym (at_other u t (Some s.settlement) (a.told u) k) ∙ e)
     ];
-    lost_calls = λ u e. let (x, c, y) = b.lost_calls u e in
-        (elim (number_or u t) [ inl k ↦ at_same u t None (a.open_ u) k | inr k ↦ at_other u t None (a.open_ u) k ∙ x ], c, y);
+    lost_calls = λ u e. grind (arith, b.lost_calls u);
     named = named;
     home = λ u v i e. b.home u v i (open_old u v e).1;
     once = λ u c v x e k. b.once u c v x (open_old u v e).1 (open_old c x k).1;
@@ -216,7 +179,7 @@ module _ (a : Account) (w : Lanes) (b : Books a) (h : Ties a w) (t : ℕ) (o : O
   same i r v e su g l = go (turn i) where
     go : Turns o s.request s.settlement a.role i → (v.props ≡ r.props) × (v.attrs ≡ r.attrs)
     go (makes k p c d q) = grind (arith, role_is)
-    go (sets p c d q) = grind (arith, set_was, set_now, set_home)
+    go (sets p c d q) = grind (arith, set_was, set_now, b, is, request_is, set_names)
     go (takes d q) = let x = role_is i in absurd (cc)
     go (keeps c c' c'' q) =
         h.same i r v (sym q ∙ sym (role_is i) ∙ e) su (λ (u, v', q', p, c0, x', d'). elim (still u v' q' x') [
@@ -232,11 +195,7 @@ module _ (a : Account) (w : Lanes) (b : Books a) (h : Ties a w) (t : ℕ) (o : O
     before = h.born u v q i k p c (was u v q x) d
 
     go : Turns o s.request s.settlement a.role i → after.role i ≡ Stranger
-    go (makes k' p' c' d' m) =
-        let y = (h.created_named v.lane i u q x.1 (k, p, c, d)).0 in
-        let z = (h.created_named o.lane i t s is.1 (k', p', c', d')).0 in
-        let e : settled_under w o.lane u ≡ Some q = subst (λ n. settled_under w n u ≡ Some q) (sym y ∙ z) x.1 in
-        absurd ((open_old u v x.0).0 (h.created_once o.lane i u t q s e is.1 (k, p, c, d) (k', p', c', d')))
+    go (makes k' p' c' d' m) = grind (arith, open_old u v, h.created_named v.lane i u q x.1, h.created_named o.lane i t s is.1, h.created_once o.lane i t u s q)
     go (sets p' c' d' m) = let y = (set_was i p' c' d').1 in let z = before.1 in absurd (cc)
     go (takes d' m) = role_is i ∙ m
     go (keeps e e' e'' m) = role_is i ∙ m ∙ before.1
@@ -256,7 +215,7 @@ module _ (a : Account) (w : Lanes) (b : Books a) (h : Ties a w) (t : ℕ) (o : O
     go : Turns o s.request s.settlement a.role i → (after.role i ≢ Stranger) ⊎ IsBorn after w i ⊎ IsLost after w i
     go (makes k p c d q) = inl (λ e. let x = role_is i in absurd (cc))
     go (sets p c d q) = let (r, x, y, z) = set_was i p c d in inl (λ e. let f = set_now i p c r x q in absurd (cc))
-    go (takes d q) = grind (arith, gone_was, gone)
+    go (takes d q) = grind (arith, gone, b, named, is, request_is, gone_names)
     go (keeps e e' e'' q) = by_before (λ x. inl (λ y. x (sym q ∙ sym (role_is i) ∙ y))) (λ (k, p, c, m). absurd (e k p c m))
 
   known : (i : List ℕ) → after.role i ≢ Stranger → IsThere w (lane_of i) → used_in w (lane_of i) i ≡ true
@@ -270,16 +229,10 @@ module _ (a : Account) (w : Lanes) (b : Books a) (h : Ties a w) (t : ℕ) (o : O
     go (keeps c c' c'' q) = h.known i (λ k. e (role_is i ∙ q ∙ k)) th
 
   pub leftover_stays : (i : List ℕ) → a.role i ≡ Leftover → after.role i ≡ Leftover
-  leftover_stays i y = grind (arith, role_is, turn, made_was, set_was, gone_was)
+  leftover_stays i y = grind (arith, role_is, turn, made_was, set_was, b, named, is, request_is, gone_names)
 
   flying_open : (n : List ℕ) (f : Flying) → In f (w.lane n).flying → settled_under w n f.token ≡ None → (w.lane n).fence ≤ f.epoch → IsAccounted after f.token f.request
-  flying_open n f m e k = elim (h.flying_open n f m e k) [
-    | inl (v, x) ↦ inl (v, open_kept f.token v (apart v x) x)
-    | inr z ↦ elim z [ inl (i, x, y) ↦ inr (inl (i, x, leftover_stays i y)) | inr y ↦ inr (inr y) ]
-  ]
-    where
-      apart : (v : Open) → a.open_ f.token ≡ Some v → f.token ≢ t
-      apart v x c = grind arith
+  flying_open n f m e k = grind (arith, h.flying_open n f m e k, open_kept f.token, leftover_stays)
 
   answers : (u : ℕ) (x : Settlement) (c : Called) → after.told u ≡ Some x → a.call u ≡ Some c → IsThere w c.lane → (r : Settled) × (settled_under w c.lane u ≡ Some r) × (r.settlement ≡ x)
   answers u x c e k th = grind arith
@@ -296,9 +249,6 @@ module _ (a : Account) (w : Lanes) (b : Books a) (h : Ties a w) (t : ℕ) (o : O
 module _ (a : Account) (w : Lanes) (b : Books a) (h : Ties a w) (drop : ℕ → Bool) (role : List ℕ → Role) (may : MayDrop a w drop role) where
   abbrev after_dropped : Account
   after_dropped = dropped drop role a
-
-  pub bool_or : (c : Bool) → (c ≡ true) ⊎ (c ≡ false)
-  bool_or c = grind arith
 
   pub open_old_dropped : (u : ℕ) (v : Open) → after_dropped.open_ u ≡ Some v → (a.open_ u ≡ Some v) × (drop u ≡ false)
   open_old_dropped u v e = grind arith
@@ -343,13 +293,13 @@ module _ (a : Account) (w : Lanes) (b : Books a) (h : Ties a w) (drop : ℕ → 
   same_dropped i r v e su g l = grind (arith, resource_back, same, still_dropped, request_of, set_names)
 
   listed_dropped : (n i : List ℕ) (v : Live) → live_in w n i ≡ Some v → (role i ≢ Stranger) ⊎ IsBorn after_dropped w i ⊎ IsLost after_dropped w i
-  listed_dropped n i v l = grind (arith, listed, stranger_back, bool_or, lost_more, lost_now, request_of, made_success, open_kept_dropped)
+  listed_dropped n i v l = grind (arith, listed, stranger_back, lost_more, lost_now, request_of, made_success, open_kept_dropped)
 
   -- what a call can still change is known after it, where one in doubt can't act any more
   pub accounted_dropped :
       (n : List ℕ) (t : ℕ) (r : Request) → FitsCall a n t r → ((v : Open) → a.open_ t ≡ Some v → a.resting v.stack ≡ true → (w.lane n).fence ≡ a.epoch → ⊥)
       → IsAccounted a t r → IsAccounted after_dropped t r
-  accounted_dropped n t r fits never v5 = grind (arith, leftover_on, lost_more, bool_or, open_kept_dropped, lost_now)
+  accounted_dropped n t r fits never v5 = grind (arith, leftover_on, lost_more, open_kept_dropped, lost_now)
 
   flying_open_dropped : (n : List ℕ) (f : Flying) → In f (w.lane n).flying → settled_under w n f.token ≡ None → (w.lane n).fence ≤ f.epoch → IsAccounted after_dropped f.token f.request
   flying_open_dropped n f m e k = grind (arith, accounted_dropped, flying_open)
@@ -402,14 +352,11 @@ module _ (n : List ℕ) (l l' : FencedLane) (e t : ℕ) (r : Request) where
   answer_settled x y m k = grind (arith, by_settling)
 
 pub call_keeps : CallKeeps
-call_keeps a w w' ls l after x h mine there rep m = record {
+call_keeps a w w' ls l after x h mine there rep m = let b = (h.tied).books in record {
   tied = record { books = b; ties = ties_called a l.lane w w' b (h.tied).ties there after rep l.token l.request ((h.leased).out l mine) x m };
   leased = leased_replied a w w' ls h.leased (by_leaving l.lane after w w' rep a.epoch l.token l.request (call_leaves l.lane (w.lane l.lane) after a.epoch l.token l.request x m)) l (settlement_in x) mine
       (λ y e. let (s, p, q) = answer_settled l.lane (w.lane l.lane) after a.epoch l.token l.request x y m e in (s, ap (λ (z : FencedLane). settled_at l.token z.state.settled) rep.at ∙ p, q));
 }
-  where
-    b : Books a
-    b = (h.tied).books
 
 pub stale_keeps : StaleKeeps
 stale_keeps a w w' ls l after fence h mine there rep m = grind arith
@@ -429,9 +376,7 @@ fence_keeps a w w' ls n after x before counted h there rep m = record {
 }
   where
     state : (x : FenceAnswer) → FenceMove (w.lane n) after a.epoch x before counted → after.state ≡ (w.lane n).state
-    state Raised k = ap (λ (y : FencedLane). y.state) k.1
-    state (Ahead fence) k = ap (λ (y : FencedLane). y.state) k.2
-    state Broken k = elim k.2 [ inl e ↦ ap (λ (y : FencedLane). y.state) e | inr e ↦ ap (λ (y : FencedLane). y.state) e ]
+    state v0 k = grind arith
 
 pub opening_keeps : OpeningKeeps
 opening_keeps a w named resting h may = grind arith
@@ -455,36 +400,25 @@ intent_keeps a w ls o h may = (
     open_now : (intended o a).open_ (a.last + 1) ≡ Some o
     open_now = Rattle.cf_agree.proofs.Words.at_same (a.last + 1) (a.last + 1) (Some o) (a.open_ (a.last + 1)) refl
 
-    call_now : (intended o a).call (a.last + 1) ≡ Some (called_of o)
-    call_now = Rattle.cf_agree.proofs.Words.at_same (a.last + 1) (a.last + 1) (Some (called_of o)) (a.call (a.last + 1)) refl
-
     new : a.resting o.stack ≡ false → IsOut (intended o a) o.lane (a.last + 1) o.request
-    new going = grind (arith, call_now, open_now)
+    new going = grind (arith, open_now)
 
 pub answer_keeps : AnswerKeeps
 answer_keeps a w ls l o x h mine re op = by_entry ((h.leased).replies l x mine re)
   where
-    b : Books a
-    b = (h.tied).books
-
-    fit : (o.lane ≡ l.lane) × (o.request ≡ l.request)
-    fit = (((h.leased).out l mine).own).written (called_of o) (b.calls l.token o op)
-
     by_entry : (s : Settled) × (settled_under w l.lane l.token ≡ Some s) × (s.settlement ≡ x) → Agrees (answered l.token o x a) w (returned l.token ls)
-    by_entry (s, e, y) = subst (λ z. Agrees (answered l.token o z a) w (returned l.token ls)) y (record {
+    by_entry (s, e, y) = let b = (h.tied).books in subst (λ z. Agrees (answered l.token o z a) w (returned l.token ls)) y (record {
       tied = record { books = books_answered a w b (h.tied).ties l.token o s is; ties = ties_answered a w b (h.tied).ties l.token o s is };
       leased = leased_returned a (answered l.token o s.settlement a) w ls h.leased l.token (λ m i n out. record {
         own = record { number = (out.own).number; written = (out.own).written };
-        accounted = elim out.accounted [
-          | inl z ↦ inl (z.0, open_kept a w b (h.tied).ties l.token o s is m.token z.0 n z.1)
-          | inr z ↦ elim z [ inl (i', p, q) ↦ inr (inl (i', p, leftover_stays a w b (h.tied).ties l.token o s is i' q)) | inr q ↦ inr (inr q) ]
-        ];
+        accounted = grind (arith, out.accounted, open_kept a w b (h.tied).ties l.token o s is m.token, leftover_stays a w b (h.tied).ties l.token o s is, n);
         going = λ v k. out.going v (open_old a w b (h.tied).ties l.token o s is m.token v k).1;
       });
     })
       where
         is : IsSettledCall a w l.token o s
-        is = (op, subst (λ n. settled_under w n l.token ≡ Some s) (sym fit.0) e)
+        is = let fit = (((h.leased).out l mine).own).written (called_of o) ((h.tied).books.calls l.token o op) in
+            (op, subst (λ n. settled_under w n l.token ≡ Some s) (sym fit.0) e)
 
 pub return_keeps : ReturnKeeps
 return_keeps a w ls t h = record { tied = h.tied; leased = leased_returned a a w ls h.leased t (λ l i n o. o) }

@@ -2,16 +2,12 @@
 use Rattle.std.proofs.Common.{◌≡◌, ◌≢◌, ◌⊎◌, inl, inr, ℕ, zero, suc, slice_get, ◌==◌, List, [], ◌∷◌, ◌++◌, Bool, true, false, ◌||◌, Option, Some, None, refl, sym, ap, subst, ◌∙◌, true≢false, map, filter, find, length, nat_le, arith}
 use Rattle.std.specs.{Cmp.second_so, List.list_all, List.list_any, List.remove, Prelude.cond, Str.bytes_eq}
 use Rattle.std.proofs.lemmas.{Bool.eq-eqb, Bool.ne_eqb, Bool.or_from, Bool.or_left, Bool.or_right, List.Folds.list_any-append, Slice.Eq.bytes_eq-Decides}
-use Rattle.cf_tree.specs.Datum.{Data}
-use Rattle.cf_tree.specs.declared.request.Request.{Request}
+use Rattle.cf_tree.specs.{Datum.Data, declared.request.Request.Request, Lists.In, Lists.here, Lists.there}
 use Rattle.cf_handler.specs.declared.{settled.Settled.Settled, settled.Settlement.Settlement}
 use Rattle.cf_handler.specs.declared.settled.Settlement.TheVariants.{Success}
 use Rattle.cf_handler.specs.Lane.{LaneState, Live, live_of, live_after, live_changed, updated, has_id, is_used, succeeded_with, settlement_of}
 use Rattle.cf_handler.specs.{Move.IsOfLane, Move.with_settled, Name.is_lane_name, Name.is_name_byte}
 use Rattle.cf_agree.specs.Base.{lane_of, settled_at}
-use Rattle.cf_tree.specs.Lists.{there}
-use Rattle.cf_tree.specs.Lists.{here}
-use Rattle.cf_tree.specs.Lists.{In}
 
 pub same_bytes : (a b : List ℕ) → a ≡ b → bytes_eq a b ≡ true
 same_bytes a b e = (bytes_eq-Decides a b).1 e
@@ -27,12 +23,6 @@ bytes_or a b = by_test (bytes_eq a b) refl where
   by_test : (c : Bool) → bytes_eq a b ≡ c → (a ≡ b) ⊎ (a ≢ b)
   by_test true h = inl (bytes_same a b h)
   by_test false h = inr (λ e. true≢false (sym (same_bytes a b e) ∙ h))
-
-first_not : (a b : Bool) → (a || b) ≡ false → a ≡ false
-first_not a b h = grind arith
-
-second_not : (a b : Bool) → (a || b) ≡ false → b ≡ false
-second_not a b h = grind arith
 
 pub some_or : {A : Type 0} (o : Option A) → (o ≡ None) ⊎ ((x : A) × (o ≡ Some x))
 some_or None = inl refl
@@ -58,10 +48,7 @@ in_cons x y ys v3 = grind arith
 
 pub in_either : {A : Type 0} (x : A) (xs : List A) (y : A) → In x (xs ++ y ∷ []) → In x xs ⊎ (x ≡ y)
 in_either x [] y i = elim (in_cons x y [] i) [ inl e ↦ inr e | inr e ↦ inl e ]
-in_either x (z ∷ xs) y i = elim (in_cons x z (xs ++ y ∷ []) i) [
-  | inl e ↦ inl (subst (λ q. In q (z ∷ xs)) (sym e) here)
-  | inr e ↦ elim (in_either x xs y e) [ inl k ↦ inl (there k) | inr k ↦ inr k ]
-]
+in_either x (z ∷ xs) y i = grind (arith, in_cons x z (xs ++ y ∷ []) i, in_either x xs y, here, there)
 
 -- the settled entry of a token: it stays, and one more is that of its own token alone
 pub entry_still : (t : ℕ) (ss : List Settled) (s r : Settled) → settled_at t ss ≡ Some r → settled_at t (ss ++ s ∷ []) ≡ Some r
@@ -75,10 +62,6 @@ entry_now t (q ∷ ss) s e h = grind (arith, entry_now t ss s e)
 pub entry_others : (t : ℕ) (ss : List Settled) (s : Settled) → t ≢ s.token → settled_at t (ss ++ s ∷ []) ≡ settled_at t ss
 entry_others t [] s n = at_other t s.token (Some s) None n
 entry_others t (q ∷ ss) s n = ap (λ o. cond (t == q.token) (Some q) o) (entry_others t ss s n)
-
-pub entry_token : (t : ℕ) (ss : List Settled) (s : Settled) → settled_at t ss ≡ Some s → s.token ≡ t
-entry_token t [] s h = absurd (cc)
-entry_token t (q ∷ ss) s h = grind (arith, entry_token t ss s)
 
 -- no settlement, no entry
 pub unsettled : (t : ℕ) (ss : List Settled) → settlement_of t ss ≡ None → settled_at t ss ≡ None
@@ -104,11 +87,6 @@ used_born token id attrs lane s h e = or_right (has_id id lane.base) _ (among la
   among [] k = absurd (cc)
   among (q ∷ ss) k = grind (arith, among ss, number_or, or_left, same_bytes, or_right, at_other)
 
--- the resource that is found under an id has it
-pub found_id : (i : List ℕ) (live : List Live) (v : Live) → find (λ r. bytes_eq i r.id) live ≡ Some v → i ≡ v.id
-found_id i [] v h = absurd (cc)
-found_id i (r ∷ live) v h = grind (arith, found_id i live v, bytes_same)
-
 pub has_found : (i : List ℕ) (live : List Live) → has_id i live ≡ true → (v : Live) × (find (λ r. bytes_eq i r.id) live ≡ Some v)
 has_found i [] h = absurd (true≢false (sym h))
 has_found i (r ∷ live) h = either (bytes_eq i r.id) h (has_found i live) where
@@ -121,37 +99,12 @@ has_none i [] h = refl
 has_none i (r ∷ live) h = grind (arith, has_none i live)
 
 -- a lane's name has no colon, so an id names one lane
-colon : (y : ℕ) → y ≡ 58 → is_name_byte y ≡ true → ⊥
-colon y e h = true≢false (sym h ∙ ap is_name_byte e)
-
 before_colon : (n rest : List ℕ) → list_all is_name_byte n ≡ true → lane_of (n ++ 58 ∷ rest) ≡ n
 before_colon [] rest h = refl
 before_colon (b ∷ n) rest h = grind (arith, before_colon n rest (second_so (is_name_byte b) (list_all is_name_byte n) h))
 
-bytes_named : (name : List ℕ) → is_lane_name name ≡ true → list_all is_name_byte name ≡ true
-bytes_named name t = second_so (nat_le (length name) 64) (list_all is_name_byte name) (second_so (nat_le 1 (length name)) _ t)
-
 pub one_lane : (n i : List ℕ) → is_lane_name n ≡ true → IsOfLane n i → lane_of i ≡ n
-one_lane n i h o = ap lane_of o.1 ∙ before_colon n o.0 (bytes_named n h)
-
--- an id that was never used isn't live
-none_left : (id : List ℕ) (test : Live → Bool) (live : List Live) → has_id id live ≡ false → has_id id (filter test live) ≡ false
-none_left id test [] h = refl
-none_left id test (r ∷ live) h = grind (arith, none_left id test live)
-
-none_updated : (id other : List ℕ) (p t : List (List ℕ × Data)) (live : List Live) → has_id id live ≡ false → has_id id (map (updated other p t) live) ≡ false
-none_updated id other p t [] h = refl
-none_updated id other p t (r ∷ live) h = grind (arith, none_updated id other p t live, or_from, first_not, second_not)
-
-none_changed : (id : List ℕ) (r : Request) (s : Settlement) (live : List Live) → succeeded_with id s ≡ false → has_id id live ≡ false → has_id id (live_changed r s live) ≡ false
-none_changed id r s live u h = grind (arith, list_any-append, or_from, none_updated, none_left)
-
-none_after : (id : List ℕ) (ss : List Settled) (live : List Live) → has_id id live ≡ false → list_any (λ t. succeeded_with id t.settlement) ss ≡ false → has_id id (live_after live ss) ≡ false
-none_after id [] live h u = h
-none_after id (t ∷ ss) live h u = grind (arith, none_after id ss, none_changed, first_not, second_not)
-
-pub unused : (id : List ℕ) (lane : LaneState) → is_used id lane ≡ false → find (λ r. bytes_eq id r.id) (live_of lane) ≡ None
-unused id lane h = grind (arith, has_none, none_after, first_not, second_not)
+one_lane n i h o = ap lane_of o.1 ∙ before_colon n o.0 (second_so (nat_le (length n) 64) _ (second_so (nat_le 1 (length n)) _ h))
 
 -- what stands at a place is of the list, and what is left without it was
 pub in_got : {A : Type 0} (x : A) (xs : List A) (i : ℕ) → slice_get xs i ≡ Some x → In x xs

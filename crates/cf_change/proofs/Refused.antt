@@ -3,7 +3,8 @@ use Rattle.std.proofs.Common.{◌≡◌, ◌∙◌, ℕ, List, Bool, Option, Som
 use Rattle.std.specs.Prelude.{Err}
 use Rattle.std.proofs.lemmas.Option.{none-some}
 use Rattle.cf_tree.specs.Lists.{first_in}
-use Rattle.cf_desired.specs.Desired.{Desires, fault_of}
+use Rattle.cf_desired.specs.Desired.{Desires, desired_by, fault_of}
+use Rattle.cf_desired.proofs.FirstFlaw.{is_first}
 use Rattle.cf_desired.specs.declared.flaw.Flaw.{Flaw}
 use Rattle.cf_desired.specs.declared.refusal.DesiredFault.{DesiredFault}
 use Rattle.cf_desired.specs.declared.refusal.DesiredFault.TheVariants as unwanted
@@ -34,14 +35,14 @@ module _ (c : Changes) where
   first_flaw : (fs : List Flaw) → fs ≡ c.flaws → option_map fault_of (first_in c.flaws) ≡ option_map fault_of (first_in fs)
   first_flaw fs e = ap (λ (xs : List Flaw). option_map fault_of (first_in xs)) (sym e)
 
-  pub changed_not : (f : DesiredFault) (p : Plan) → p.flaws ≡ c.flaws → Desires p (Err f) → Changed c (Err (refused f))
-  changed_not (unwanted.Bind at f) p s h = flawed (unwanted.Bind at f) (first_flaw p.flaws s ∙ h)
-  changed_not (unwanted.Eval f) p s h = flawed (unwanted.Eval f) (first_flaw p.flaws s ∙ h)
-  changed_not (unwanted.Graph at f) p s h = flawed (unwanted.Graph at f) (first_flaw p.flaws s ∙ h)
-  changed_not (unwanted.Shape path) p s h = flawed (unwanted.Shape path) (first_flaw p.flaws s ∙ h)
-  changed_not (unwanted.TemplateMissing name) p s h = flawed (unwanted.TemplateMissing name) (first_flaw p.flaws s ∙ h)
-  changed_not (unwanted.TooDeep path) p s h = flawed (unwanted.TooDeep path) (first_flaw p.flaws s ∙ h)
-  changed_not (unwanted.TooMany count) p s h = flawed (unwanted.TooMany count) (first_flaw p.flaws s ∙ h)
-  changed_not (unwanted.DynamicCondition path name) p s h = flawed (unwanted.DynamicCondition path name) (first_flaw p.flaws s ∙ h)
-  changed_not (unwanted.DynamicTemplate path) p s h = flawed (unwanted.DynamicTemplate path) (first_flaw p.flaws s ∙ h)
+  pub changed_not : (f : DesiredFault) (p : Plan) → p.flaws ≡ c.flaws → Desires (desired_by p (first_in p.flaws)) (Err f) → Changed c (Err (refused f))
+  changed_not (unwanted.Bind at f) p s h = flawed (unwanted.Bind at f) (first_flaw p.flaws s ∙ is_first p _ (first_in p.flaws) h)
+  changed_not (unwanted.Eval f) p s h = flawed (unwanted.Eval f) (first_flaw p.flaws s ∙ is_first p _ (first_in p.flaws) h)
+  changed_not (unwanted.Graph at f) p s h = flawed (unwanted.Graph at f) (first_flaw p.flaws s ∙ is_first p _ (first_in p.flaws) h)
+  changed_not (unwanted.Shape path) p s h = flawed (unwanted.Shape path) (first_flaw p.flaws s ∙ is_first p _ (first_in p.flaws) h)
+  changed_not (unwanted.TemplateMissing name) p s h = flawed (unwanted.TemplateMissing name) (first_flaw p.flaws s ∙ is_first p _ (first_in p.flaws) h)
+  changed_not (unwanted.TooDeep path) p s h = flawed (unwanted.TooDeep path) (first_flaw p.flaws s ∙ is_first p _ (first_in p.flaws) h)
+  changed_not (unwanted.TooMany count) p s h = flawed (unwanted.TooMany count) (first_flaw p.flaws s ∙ is_first p _ (first_in p.flaws) h)
+  changed_not (unwanted.DynamicCondition path name) p s h = flawed (unwanted.DynamicCondition path name) (first_flaw p.flaws s ∙ is_first p _ (first_in p.flaws) h)
+  changed_not (unwanted.DynamicTemplate path) p s h = flawed (unwanted.DynamicTemplate path) (first_flaw p.flaws s ∙ is_first p _ (first_in p.flaws) h)
   changed_not unwanted.NoMemory p s h = tt

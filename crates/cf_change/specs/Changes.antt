@@ -27,7 +27,7 @@ use Rattle.cf_tree.specs.declared.template.Deletion.{Deletion}
 use Rattle.cf_tree.specs.declared.template.Deletion.TheVariants as deletion
 use Rattle.cf_tree.specs.declared.template.Replace.{Replace}
 use Rattle.cf_tree.specs.declared.template.Replace.TheVariants as replace
-use Rattle.cf_tree.specs.Lists.{first_in, is_among, insert_by}
+use Rattle.cf_tree.specs.Lists.{first_in, insert_by, is_among, least_by}
 use Rattle.cf_change.specs.declared.found.Found as kept_found
 use Rattle.cf_change.specs.declared.held.HeldAt as kept_held
 use Rattle.cf_export.specs.declared.Output.{Output}
@@ -276,12 +276,8 @@ changes_of schemas held outputs exports source =
     let f = found_of schemas held source in changes_by held outputs exports f (plan_of source f.seen)
 
 -- The answer: the first flaw; else the least path that is held with another type; else that nothing changes; else the set.
-abbrev pub lesser : Option (List ℕ) → List ℕ → Option (List ℕ)
-lesser None path = Some path
-lesser (Some least) path = if bytes_lt path least then Some path else Some least
-
 abbrev pub least_of : List (List ℕ) → Option (List ℕ)
-least_of paths = fold lesser None paths
+least_of paths = fold (least_by (λ path. path)) None paths
 
 abbrev pub refusal_by : Option Flaw → Option (List ℕ) → Bool → Option ChangeFault
 refusal_by (Some f) clash same = Some (fault.Plan (fault_of f))

@@ -5,6 +5,7 @@ ghost use Rattle.std.specs.Option.{option_copied};
 ghost use Rattle.cf_tree.specs.declared.row.Row.{Row};
 ghost use Rattle.cf_tree.specs.Lists.{insert_by};
 ghost use Rattle.cf_change.specs.Changes.{is_property, is_row_before, keeps_id, modify_row, removed_rows, row_for, seen_after};
+ghost use Rattle.cf_change.specs.Rising.{Rises};
 
 use crate::details::{details_for, replacement_of};
 use crate::held::HeldAt;
@@ -129,6 +130,7 @@ pub(crate) fn add_removed(
 }
 
 /// Rows by path.
+#[tactic(auto, using(crate::proofs::Joining::rows_rise))]
 pub(crate) fn by_path(alloc: Global, rows: Rows) -> Result<Rows, AllocError>
     ensures { IfOk result (λ r. r ≡ fold (insert_by is_row_before) [] rows) }
 {
@@ -140,14 +142,22 @@ pub(crate) fn by_path(alloc: Global, rows: Rows) -> Result<Rows, AllocError>
     Ok(sorted)
 }
 
-/// How many rows come before a path, up to the first that doesn't.
+/// How many rows come before a path, among rows by path.
+#[tactic(auto, using(crate::proofs::Joining::row_joins))]
 fn place_of(rows: &[Row], path: &Txt) -> usize
+    requires rises { Rises is_row_before rows.now }
     ensures fits { result ≤ length rows.now }
     ensures place { (row : Row) → row.path ≡ path.now → insert rows.now result row ≡ insert_by is_row_before rows.now row }
 {
-    let mut at = 0;
-    while at < rows.len() && rows[at].path < *path {
-        at += 1;
+    let mut low = 0;
+    let mut high = rows.len();
+    while low < high {
+        let middle = low + (high - low) / 2;
+        if rows[middle].path < *path {
+            low = middle + 1;
+        } else {
+            high = middle;
+        }
     }
-    at
+    low
 }

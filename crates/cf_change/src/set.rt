@@ -65,7 +65,7 @@ pub fn change_set(
         Ok(plan) => plan,
         Err(fault) => return Err(refused(fault)),
     };
-    changed(alloc, held, found, &plan)
+    change_set_by(alloc, held, found, &plan)
 }
 
 /// Why there is no plan, as a refusal of the change set.
@@ -78,8 +78,13 @@ fn refused(fault: DesiredFault) -> ChangeFault
     }
 }
 
-/// The change set by a plan without a flaw, where no path has another type and something changes.
-fn changed(
+/// What a source would change of what a stack holds, by what was found of it and by its plan, which has no flaw.
+///
+/// # Errors
+///
+/// In this order: `TypeChanged` with the least path that is held with another type, `NoChanges` where there is no row and the
+/// outputs are the same. `NoMemory` may come anywhere.
+pub fn change_set_by(
     alloc: Global,
     held: &HeldMap,
     found: Found,

@@ -1,11 +1,12 @@
 -- The forward phase begins, and goes on behind each entry that is written.
 use Rattle.std.proofs.Common.{arith, ◌≡◌, ℕ, List, ◌++◌, Option, Some, None, refl, sym, ap, subst, ◌∙◌, map, option_map, ◌==◌, Bool, true, false, ◌&&◌, not, true≢false, ◌∷◌, inl, inr, ◌+◌, ◌||◌, IsTrue, is_some, filter, [], ◌⊎◌}
-use Rattle.cf_core.proofs.Words.{AdvancingBegins, AdvancingGoesOn, AgreeAt, AreAhead, AreSameThings, AreSingle, BeginsBy, Begun, Call, CourseIsFree, Data, EndsAs, Entry, Fits, Forward, StaysForward, HasBegunForward, Held, HeldLeft, In, IntendsForward, IsAccepted, IsAdvancing, IsAsSaid, AsksForNow, IsCleared, IsDone, IsFreeToBegin, IsFurther, IsHidden, IsMove, IsMoved, IsOnCourse, IsOpenAhead, IsOwn, IsReady, IsRowOf, IsSameThing, IsStill, IsTo, IsWritten, KeepsRest, Known, Later, LeftAt, MayFollowIn, MayIntend, MayKeep, Member, Pending, Phase, Reply, Request, RestIsSeen, Row, Schema, Seen, Source, StackState, Status, Wanted, Why, World, anew, answered, answered_call, begins_from, by_create, by_update, bytes_eq, change_first, changes_begun, closed, closing, cond, creates_from, current_at, effect_at, evaluated_at, finding, first_so, goes_forward, has_physical, has_token, heard, hides_attrs, hides_id, is_call, is_current_at, is_in_progress, is_made, is_open_call, is_restore, is_right, is_success, is_update, is_updated, list_any, made_of, member_at, moved, needs_at, new_call, on_stack, option_map_or, pending_of, plan_by, plan_in, props_at, replied, resources_of, reviewed, seen_in, seen_now, settled_by, shape_of, source_for, status_made, still_open, succeeded, terms_at, terms_of, turned, unmoved, updates, updates_from, updating, value_at, wanted_at, wanted_from, wanted_in, wanted_paths, was_updated, was_updated_at, where_call, where_physical, without_token}
+use Rattle.cf_core.proofs.Words.{AdvancingBegins, AdvancingGoesOn, AgreeAt, AreAhead, AreSameThings, AreSingle, BeginsBy, Begun, Call, CourseIsFree, Data, Entry, Fits, Forward, StaysForward, HasBegunForward, Held, HeldLeft, In, IntendsForward, IsAccepted, IsAdvancing, IsAsSaid, AsksForNow, IsDone, IsFreeToBegin, IsFurther, IsMove, IsMoved, IsOpenAhead, IsOwn, IsReady, IsRowOf, IsSameThing, IsStill, IsTo, IsWritten, Known, Later, LeftAt, MayFollowIn, MayIntend, MayKeep, Member, Pending, Phase, Reply, Request, RestIsSeen, Schema, Seen, Source, StackState, Status, Wanted, Why, World, anew, answered, answered_call, begins_from, by_create, by_update, bytes_eq, change_first, closed, closing, cond, creates_from, current_at, effect_at, evaluated_at, finding, first_so, goes_forward, has_physical, has_token, heard, is_call, is_current_at, is_in_progress, is_made, is_open_call, is_restore, is_right, is_success, is_update, is_updated, list_any, made_of, member_at, moved, needs_at, new_call, on_stack, option_map_or, pending_of, plan_by, plan_in, props_at, replied, resources_of, reviewed, seen_in, seen_now, settled_by, shape_of, source_for, status_made, still_open, succeeded, terms_at, terms_of, turned, unmoved, updates, updates_from, updating, value_at, wanted_at, wanted_from, wanted_in, wanted_paths, was_updated, was_updated_at, where_call, where_physical, without_token}
 use Rattle.cf_core.proofs.Lemmas.{and_no, any_filtered, any_mapped, any_no_more, any_of, by_paths, bytes_eq-Decides, bytes_same, cases_Bool, each_map, eqb-true, false_from, find-append, found_changed, found_else, found_in_more, found_no_more, found_one, found_still, in_any, in_filter, in_front, in_more, kept_self, needs_suffice, no_and, none_if, none_kept, not_so, one_id, one_number, or_right, same_bytes, same_in, shown, shown_at, some_is, some_of, terms_by, wanted_terms}
-use Rattle.cf_core.proofs.{Rows.answered_same, Rows.answered_row, Rows.answered_row_same, Statuses.ended_status, Statuses.turned_status, Moving.written_is_to, Moving.written_moves, BackLists.is_of, BackLists.same_things}
+use Rattle.cf_core.proofs.{Rows.answered_same, Rows.answered_row, Rows.answered_row_same, Statuses.ended_status, Statuses.turned_status, Moving.written_is_to, Moving.written_moves, BackSteps.is_of, BackSteps.same_things}
 use Rattle.std.specs.Option.{option_and_then}
 use Rattle.cf_desired.specs.declared.shape.Terms.{Terms}
 use Rattle.cf_plan.proofs.ChangedLists.{in_changed}
+use Rattle.cf_core.specs.Ahead.{HasHidden}
 use Rattle.cf_core.specs.Advancing as things
 use Rattle.cf_core.specs.Written as to
 use Rattle.cf_core.specs.Moving as move
@@ -96,64 +97,58 @@ asked_stays s t source f path (Request.Create kind props) ready still a = ready_
 asked_stays s t source f path (Request.Update physical props) ready still (h, e, id, said) = (h, still.held ∙ e, id, ready_said s t source f path ready ∙ said)
 asked_stays s t source f path (Request.Delete physical) ready still a = a
 
-hidden_stays : (rows : List Row) (s t : StackState) (path : List ℕ) (r : Request) → IsStill s t path → IsHidden rows s path r → IsHidden rows t path r
-hidden_stays rows s t path r still h = grind arith
-
 -- what is open as a stack that goes forward has it
 pub open_of : (schemas : List Schema) (s : StackState) (source : Source) → IsAdvancing schemas s source → (p : Pending) → In p s.tokens → IsOpenAhead schemas s source p
 open_of schemas s source h p i = record { ready = h.ready p i; not_done = h.not_done p i; asked = h.asked p i; hidden = h.hidden p i }
 
-module _ (schemas : List Schema) (s : StackState) (source : Source) (h : IsAdvancing schemas s source) where
-  -- what the change set did not hide is still seen
-  abbrev pub Rest : List Held → Type 0
-  Rest rs = KeepsRest (hides_id (changes_begun schemas s source).rows) (hides_attrs (changes_begun schemas s source).rows) (seen_in s.before) (seen_in rs)
+-- The entry leaves the operation, and each path that is done; and its phase goes on where calls are hidden and the rest is seen.
+pub record Goes (schemas : List Schema) (x : World) (out name : List ℕ) (s : StackState) (source : Source) (t : StackState) : Type 0 where
+  pub going : t.going ≡ s.going
+  pub before : t.before ≡ s.before
+  pub left : (q : List ℕ) → LeftAt s t q
+  pub goes : HasHidden schemas x out name s t source → StaysForward schemas s t source
 
+module _ (schemas : List Schema) (s : StackState) (source : Source) (h : IsAdvancing schemas s source) where
   pub further_of : (t : StackState) → t.going ≡ s.going → t.before ≡ s.before → ((q : List ℕ) → LeftAt s t q) → IsFurther s t source
   further_of t going before left = grind arith
 
-  module _ (hs ms : List Held) (ts : List Pending) (cs : List Call) (es : List Entry) (lines : List (List ℕ)) where
+  module _ (x : World) (out name : List ℕ) (hs ms : List Held) (ts : List Pending) (cs : List Call) (es : List Entry)
+      (lines : List (List ℕ)) where
     abbrev t : StackState
     t = moved s hs ms ts cs es lines
 
-    abbrev pub Moves : Type 0
-    Moves = ((q : List ℕ) → LeftAt s t q) × (Rest (ms ++ hs) → IsAdvancing schemas t source)
+    pub goes_on : ((q : List ℕ) → LeftAt s t q) → (HasHidden schemas x out name s t source → IsMoved schemas s t source)
+        → Goes schemas x out name s source t
+    goes_on left moves =
+        record { going = refl; before = refl; left = left; goes = λ hid. record { status = refl; before = refl; advancing = advances (moves hid) hid.rest } } where
+          further : IsFurther s t source
+          further = further_of t refl refl left
 
-    pub goes_on : IsMoved schemas s t source → Moves
-    goes_on m = (
-      m.left,
-      λ rest. record {
-        going = h.going;
-        no_flaw = h.no_flaw;
-        no_clash = h.no_clash;
-        rest = rest;
-        single_before = h.single_before;
-        held = m.held;
-        unchanged = m.unchanged;
-        single_made = m.single_made;
-        made = λ r i. said_stays r (m.made r i);
-        updated = λ path u. let (g, e, a) = m.updated path u in (g, e, said_stays g a);
-        ready = λ p i. ready_stays s t source further p.path (m.open_ p i).ready;
-        not_done = λ p i d. (m.open_ p i).not_done (not_done_stays s t source further p.path (m.open_ p i).ready (open_still p i (m.left p.path)) d);
-        asked = λ p i. asked_stays s t source further p.path p.request (m.open_ p i).ready (open_still p i (m.left p.path)) (m.open_ p i).asked;
-        hidden = λ p i. hidden_stays (changes_begun schemas s source).rows s t p.path p.request (open_still p i (m.left p.path)) (m.open_ p i).hidden;
-        calls = m.calls.calls;
-        at_path = m.calls.at_path;
-      },
-    ) where
-      further : IsFurther s t source
-      further = further_of t refl refl m.left
+          said_stays : (r : Held) → IsAsSaid s r → IsAsSaid t r
+          said_stays r a =
+              record { sure = a.sure; said = ready_said s t source further r.path a.ready ∙ a.said; ready = ready_stays s t source further r.path a.ready }
 
-      said_stays : (r : Held) → IsAsSaid s r → IsAsSaid t r
-      said_stays r a =
-          record { sure = a.sure; said = ready_said s t source further r.path a.ready ∙ a.said; ready = ready_stays s t source further r.path a.ready }
-
-      open_still : (p : Pending) → In p ts → LeftAt s t p.path → IsStill s t p.path
-      open_still p i k = grind arith
+          advances : IsMoved schemas s t source → RestIsSeen schemas t source → IsAdvancing schemas t source
+          advances m rest = record {
+            going = h.going;
+            no_flaw = h.no_flaw;
+            no_clash = h.no_clash;
+            rest = rest;
+            single_before = h.single_before;
+            held = m.held;
+            unchanged = m.unchanged;
+            single_made = m.single_made;
+            made = λ r i. said_stays r (m.made r i);
+            updated = λ path u. let (g, e, a) = m.updated path u in (g, e, said_stays g a);
+            ready = λ p i. ready_stays s t source further p.path (m.open_ p i).ready;
+            not_done = λ p i d. (m.open_ p i).not_done (not_done_stays s t source further p.path (m.open_ p i).ready (grind arith) d);
+            asked = λ p i. asked_stays s t source further p.path p.request (m.open_ p i).ready (grind arith) (m.open_ p i).asked;
+            hidden = λ p i. grind arith;
+            calls = m.calls.calls;
+            at_path = m.calls.at_path;
+          }
 
 -- What the ledger tells of updates as an open call is answered.
-
-success_by : (a : Reply) (c : Call) → c.answer ≡ None → succeeded (answered_call a c) ≡ is_success (settled_by a)
-success_by a c e = grind arith
 
 -- what is so of the two statuses of a forward phase
 pub only_forward : (P : Status → Type 0) → P Status.CreateInProgress → P Status.UpdateInProgress → (z : Status) → goes_forward z ≡ true → P z
@@ -171,9 +166,6 @@ pub updated_all : (q : List ℕ) (s : StackState) → was_updated_at q s ≡ lis
 updated_all q s = any_filtered (λ c. c.number == s.operation) (λ c. bytes_eq q c.path && (is_update c.request && succeeded c)) s.ledger
 
 module _ (x : World) (s : StackState) (fits : Fits x s) (token : ℕ) (p : Pending) (i : In p s.tokens) (named : has_token token p ≡ true) where
-  token_is : token ≡ p.token
-  token_is = eqb-true token p.token named
-
   row_of : IsRowOf p (fits.rows p i).0
   row_of = (fits.rows p i).2
 
@@ -182,13 +174,10 @@ module _ (x : World) (s : StackState) (fits : Fits x s) (token : ℕ) (p : Pendi
 
   -- no other row is of the token
   pub row_only : (c : Call) → In c s.ledger → is_call token c ≡ true → c ≡ (fits.rows p i).0
-  row_only c j e = grind (arith, one_number, row_in, eqb-true, token_is)
+  row_only c j e = grind (arith, one_number, row_in, eqb-true)
 
   open_row : (c : Call) → In c s.ledger → is_call token c ≡ true → IsRowOf p c
   open_row c j e = subst (IsRowOf p) (sym (row_only c j e)) row_of
-
-  fails_yet : (c : Call) → In c s.ledger → is_call token c ≡ true → succeeded c ≡ false
-  fails_yet c j e = ap is_success (open_row c j e).unanswered
 
   -- another open call is at another path
   pub elsewhere : (q : Pending) → In q (without_token token s.tokens) → In q s.tokens × (q.path ≡ p.path → ⊥)
@@ -201,7 +190,7 @@ module _ (x : World) (s : StackState) (fits : Fits x s) (token : ℕ) (p : Pendi
 
   -- a call that went out as its stack went forward gives nothing back
   pub no_restore : AreAhead s s.ledger → is_restore token s ≡ false
-  no_restore h = grind (arith, token_is, only_forward, row_in)
+  no_restore h = grind (arith, only_forward, row_in, eqb-true)
 
   module _ (a : Reply) where
     pub rows_ahead : AreAhead s s.ledger → AreAhead s (where_call token (answered_call a) s.ledger)
@@ -222,7 +211,7 @@ module _ (x : World) (s : StackState) (fits : Fits x s) (token : ℕ) (p : Pendi
     -- a path is updated as before, but for that of the call where an update succeeds
     updated_same : (q : List ℕ) → (bytes_eq q p.path && (is_update p.request && is_success (settled_by a))) ≡ false
         → list_any (is_updated_at s.operation q) (where_call token (answered_call a) s.ledger) ≡ list_any (is_updated_at s.operation q) s.ledger
-    updated_same q k = grind (arith, rows_same, answered_same, and_no, success_by, fails_yet)
+    updated_same q k = grind (arith, rows_same, answered_same, and_no, open_row)
 
     -- what was updated stays so
     pub updated_more : (id : List ℕ) → list_any (is_good_update id) (where_call token (answered_call a) s.ledger) ≡ false → was_updated id s ≡ false
@@ -233,13 +222,13 @@ module _ (x : World) (s : StackState) (fits : Fits x s) (token : ℕ) (p : Pendi
         ∙ (sym (any_mapped (answered_row token a) (is_good_update id) s.ledger) ∙ none)))
       where
         by : (c : Call) → In c s.ledger → is_good_update id c ≡ true → (b : Bool) → is_call token c ≡ b → is_good_update id (cond b (answered_call a c) c) ≡ true
-        by c j u b e = grind (arith, and_no, fails_yet)
+        by c j u b e = grind (arith, and_no, open_row)
 
   -- and what is updated now is
   pub updated_now :
       (id physical : List ℕ) (attrs : List (List ℕ × Data)) → AreAhead s s.ledger → updates id p.request ≡ true
       → list_any (is_good_update id) (where_call token (answered_call (Reply.Success physical attrs)) s.ledger) ≡ true
-  updated_now id physical attrs h u = grind (arith, any_mapped, any_of, row_in, token_is, row_of)
+  updated_now id physical attrs h u = grind (arith, any_mapped, any_of, row_in, row_of, eqb-true)
 
 -- A stack that goes forward does so behind the answer to an open call.
 
@@ -251,10 +240,6 @@ one_held x s fits g h i j e =
 -- what is found at a path is at it
 found_at : (path : List ℕ) (hs : List Held) (h : Held) → current_at path hs ≡ Some h → h.path ≡ path
 found_at path hs h e = sym (bytes_same path h.path (first_so (bytes_eq path h.path) _ (found_one (is_current_at path) hs h e).1))
-
--- at a path that is not done nothing is made
-not_made : (path : List ℕ) (s : StackState) → (IsDone s path → ⊥) → current_at path s.made ≡ None
-not_made path s n = none_if (current_at path s.made) (λ r e. n (is_made r e))
 
 -- two paths are told apart
 pub apart : (q path : List ℕ) → (q ≡ path → ⊥) → bytes_eq q path ≡ false
@@ -268,26 +253,32 @@ same_changed test change keeps _ _ (things.more {b} {h} {bs} {hs} one rest) = by
   by true ih = things.more (keeps b h one) rest
   by false ih = things.more one ih
 
-module _ (schemas : List Schema) (x : World) (s : StackState) (source : Source) (h : IsAdvancing schemas s source) (fits : Fits x s) where
+module _ (schemas : List Schema) (x : World) (out name : List ℕ) (s : StackState) (source : Source) (h : IsAdvancing schemas s source) (fits : Fits x s) where
+  abbrev On : StackState → Type 0
+  On t = Goes schemas x out name s source t
+
   abbrev ahead : AreAhead s s.ledger
   ahead = record { calls = h.calls; at_path = h.at_path }
 
   -- other open calls and other rows, where no path is updated that was not
   module _ (ts : List Pending) (cs : List Call) (es : List Entry) (lines : List (List ℕ)) where
     still_goes :
-        ((p : Pending) → In p ts → IsOpenAhead schemas s source p) → ((q : List ℕ) → was_updated_at q (moved s s.held s.made ts cs es lines) ≡ was_updated_at q s)
+        (HasHidden schemas x out name s (moved s s.held s.made ts cs es lines) source → (p : Pending) → In p ts → IsOpenAhead schemas s source p)
+        → ((q : List ℕ) → was_updated_at q (moved s s.held s.made ts cs es lines) ≡ was_updated_at q s)
         → ((id : List ℕ) → was_updated id (moved s s.held s.made ts cs es lines) ≡ false → was_updated id s ≡ false) → AreAhead s cs
-        → Moves schemas s source h s.held s.made ts cs es lines
-    still_goes open_ same more rows = goes_on schemas s source h s.held s.made ts cs es lines (record {
-      left = λ q. unmoved (record { made = refl; held = refl; updated = same q });
-      open_ = open_;
+        → On (moved s s.held s.made ts cs es lines)
+    still_goes open_ same more rows = goes_on schemas s source h x out name s.held s.made ts cs es lines left (λ hid. record {
+      left = left;
+      open_ = open_ hid;
       held = h.held;
       unchanged = λ b g i j e n. h.unchanged b g i j e (more b.physical n);
       single_made = h.single_made;
       made = h.made;
       updated = λ q u. h.updated q (sym (same q) ∙ u);
       calls = rows;
-    })
+    }) where
+      left : (q : List ℕ) → LeftAt s (moved s s.held s.made ts cs es lines) q
+      left q = unmoved (record { made = refl; held = refl; updated = same q })
 
   module _ (token : ℕ) (p : Pending) (i : In p s.tokens) (named : has_token token p ≡ true) (es : List Entry) (lines : List (List ℕ)) where
     abbrev rows : Reply → List Call
@@ -313,31 +304,32 @@ module _ (schemas : List Schema) (x : World) (s : StackState) (source : Source) 
 
     -- an answer that neither makes nor updates
     quiet : (a : Reply) → (is_update p.request && is_success (settled_by a)) ≡ false
-        → Moves schemas s source h s.held s.made (still_open token a s.tokens) (rows a) es lines
+        → On (moved s s.held s.made (still_open token a s.tokens) (rows a) es lines)
     quiet a none =
-        still_goes (still_open token a s.tokens) (rows a) es lines (λ q j. open_of schemas s source h q (was_open x s fits token p i named a q j).0)
+        still_goes (still_open token a s.tokens) (rows a) es lines (λ hid q j. open_of schemas s source h q (was_open x s fits token p i named a q j).0)
         (λ q. same a s.held s.made (still_open token a s.tokens) q (and_no (bytes_eq q p.path) _ none)) (updated_more x s fits token p i named a)
         (rows_ahead x s fits token p i named a ahead)
 
     -- a create succeeds
     makes : (physical : List ℕ) (attrs : List (List ℕ × Data)) (m : Held) → m.path ≡ p.path → m.superseded ≡ false
-        → IsAsSaid s m → is_update p.request ≡ false → Moves schemas s source h s.held (s.made ++ m ∷ []) others (rows (Reply.Success physical attrs)) es lines
+        → IsAsSaid s m → is_update p.request ≡ false → On (moved s s.held (s.made ++ m ∷ []) others (rows (Reply.Success physical attrs)) es lines)
     makes physical attrs m at current said none =
         let a : Reply = Reply.Success physical attrs in
         let ms : List Held = s.made ++ m ∷ [] in
         let passes : (q : List ℕ) → is_current_at q m ≡ bytes_eq q p.path = λ q. (λ n. bytes_eq q (at n) && not (current n)) ∙ with_true (bytes_eq q p.path) in
         let updated : (q : List ℕ) → was_updated_at q (moved s s.held ms others (rows a) es lines) ≡ was_updated_at q s =
         λ q. same a s.held ms others q (and_no (bytes_eq q p.path) _ (no_and (is_update p.request) _ none)) in
-        goes_on schemas s source h s.held ms others (rows a) es lines (record {
-          left = left_but (moved s s.held ms others (rows a) es lines) refl (by_create none refl)
-              (λ q n. record { made = found_no_more (is_current_at q) s.made m (passes q ∙ n); held = refl; updated = updated q });
+        let left = left_but (moved s s.held ms others (rows a) es lines) refl (by_create none refl)
+        (λ q n. record { made = found_no_more (is_current_at q) s.made m (passes q ∙ n); held = refl; updated = updated q }) in
+        goes_on schemas s source h x out name s.held ms others (rows a) es lines left (λ hid. record {
+          left = left;
           open_ = λ q j. open_of schemas s source h q (elsewhere x s fits token p i named q j).0;
           held = h.held;
           unchanged = λ b g j l e n. h.unchanged b g j l e (updated_more x s fits token p i named a b.physical n);
           single_made =
               in_more (λ r. current_at r.path ms ≡ Some r) m s.made (λ r j. found_still (is_current_at r.path) s.made (m ∷ []) r (h.single_made r j))
               (found_in_more (is_current_at m.path) s.made m (passes m.path ∙ (bytes_eq-Decides m.path p.path).1 at)
-              (not_made m.path s (λ d. h.not_done p i (subst (IsDone s) at d))));
+              (none_if (current_at m.path s.made) (λ r e. h.not_done p i (subst (IsDone s) at (is_made r e)))));
           made = in_more (IsAsSaid s) m s.made h.made said;
           updated = λ q u. h.updated q (sym (updated q) ∙ u);
           calls = rows_ahead x s fits token p i named a ahead;
@@ -396,142 +388,105 @@ module _ (schemas : List Schema) (x : World) (s : StackState) (source : Source) 
           true≢false (sym (updated_now x s fits token p i named id physical attrs ahead (ap (updates id) of_call ∙ same_bytes id))
           ∙ ap (λ v. was_updated v updated_to) (sym is_id) ∙ n)
 
-      updates_so : Moves schemas s source h changed s.made others (rows (Reply.Success physical attrs)) es lines
-      updates_so = goes_on schemas s source h changed s.made others (rows (Reply.Success physical attrs)) es lines (record {
-        left = left_but updated_to refl (by_update g (updating props attrs g) (ap is_update of_call) refl at now refl) as_it_was;
-        open_ = λ q j. open_of schemas s source h q (elsewhere x s fits token p i named q j).0;
-        held =
-            same_changed (has_physical id) (updating props attrs)
-            (λ b r k. record { path = k.path; physical = k.physical; kind = k.kind; needs = k.needs; deletion = k.deletion; replace = k.replace; superseded = k.superseded })
-            s.before s.held h.held;
-        unchanged = λ b r j l e n. elim (in_changed (has_physical id) (updating props attrs) s.held r l) [
-          | inl k ↦ h.unchanged b r j k e (updated_more x s fits token p i named (Reply.Success physical attrs) b.physical n)
-          | inr k ↦ absurd (counts b r e k n)
-        ];
-        single_made = h.single_made;
-        made = h.made;
-        updated = to_updated;
-        calls = rows_ahead x s fits token p i named (Reply.Success physical attrs) ahead;
-      })
+      updates_so : On updated_to
+      updates_so =
+          let left = left_but updated_to refl (by_update g (updating props attrs g) (ap is_update of_call) refl at now refl) as_it_was in
+          goes_on schemas s source h x out name changed s.made others (rows (Reply.Success physical attrs)) es lines left (λ hid. record {
+            left = left;
+            open_ = λ q j. open_of schemas s source h q (elsewhere x s fits token p i named q j).0;
+            held =
+                same_changed (has_physical id) (updating props attrs)
+                (λ b r k. record { path = k.path; physical = k.physical; kind = k.kind; needs = k.needs; deletion = k.deletion; replace = k.replace; superseded = k.superseded })
+                s.before s.held h.held;
+            unchanged = λ b r j l e n. elim (in_changed (has_physical id) (updating props attrs) s.held r l) [
+              | inl k ↦ h.unchanged b r j k e (updated_more x s fits token p i named (Reply.Success physical attrs) b.physical n)
+              | inr k ↦ absurd (counts b r e k n)
+            ];
+            single_made = h.single_made;
+            made = h.made;
+            updated = to_updated;
+            calls = rows_ahead x s fits token p i named (Reply.Success physical attrs) ahead;
+          })
 
--- The forward phase goes on behind each entry that is written: an answer, a call that goes out, an opening, and what is of another stack.
+  -- The forward phase goes on behind each entry that is written: an answer, a call that goes out, an opening, and what is of another stack.
 
--- The entry leaves the operation, and each path that is done; and its phase goes on where calls are hidden and the rest is seen.
-pub record Goes (schemas : List Schema) (x : World) (out name : List ℕ) (s : StackState) (source : Source) (t : StackState) : Type 0 where
-  pub going : t.going ≡ s.going
-  pub before : t.before ≡ s.before
-  pub left : (q : List ℕ) → LeftAt s t q
-  pub goes : ((token : ℕ) (lane path : List ℕ) (r : Request) → MayIntend schemas name x out s Forward token lane path r
-      → IsHidden (changes_begun schemas s source).rows s path r) → RestIsSeen schemas t source → StaysForward schemas s t source
+  -- Of each entry.
+  module _ (place : ℕ) where
+    -- an answer to an open call
+    module _ (number token before after : ℕ) (p : Pending) (i : In p s.tokens) (named : has_token token p ≡ true) where
+      abbrev heard_by : Reply → StackState → StackState
+      heard_by a t = (heard place (Entry.Outcome number token a before after) s (on_stack (closing token a t))).stack
 
-module _ (schemas : List Schema) (x : World) (out name : List ℕ) (s : StackState) (source : Source) (h : IsAdvancing schemas s source) (fits : Fits x s) (place : ℕ) where
-  abbrev On : StackState → Type 0
-  On t = Goes schemas x out name s source t
+      by_held : (id : List ℕ) (props : List (List ℕ × Data)) (physical : List ℕ) (attrs : List (List ℕ × Data)) → p.request ≡ Request.Update id props
+          → AsksForNow s p.path (Request.Update id props) → (b : Bool) → list_any (has_physical id) s.held ≡ b
+          → On (heard_by (Reply.Success physical attrs) (cond b (record s { held = where_physical id (updating props attrs) s.held })
+          (record s { made = where_physical id (updating props attrs) s.made })))
+      by_held id props physical attrs of_call (g, at, named_so, said) true e =
+          updates_so token p i named _ _ id props physical attrs of_call g at named_so said
+      by_held id props physical attrs of_call (g, at, named_so, said) false e =
+          absurd (true≢false (sym (any_of (has_physical id) s.held g (found_one (is_current_at p.path) s.held g at).0 ((bytes_eq-Decides id g.physical).1 (sym named_so))) ∙ e))
 
-  abbrev on : {t : StackState} → t.status ≡ s.status → t.before ≡ s.before → t.going ≡ s.going → ((q : List ℕ) → LeftAt s t q)
-      → (RestIsSeen schemas t source → IsAdvancing schemas t source) → On t
-  on same before going left goes = record { going = going; before = before; left = left; goes = λ hidden rest. record { status = same; before = before; advancing = goes rest } }
+      by_request : (r : Request) (restores : Bool) (a : Reply) → p.request ≡ r → restores ≡ false → AsksForNow s p.path r → On (heard_by a (answered restores p.path r a s))
+      by_request (Request.Create k props) restores (Reply.Success physical attrs) e none asked =
+          makes token p i named _ _ physical attrs
+          (made_of (terms_at p.path s) (status_made (current_at p.path s.held)) p.path k props physical attrs) refl refl
+          (record { sure = refl; said = asked; ready = h.ready p i }) (ap is_update e)
+      by_request (Request.Update id props) restores (Reply.Success physical attrs) e none asked = by_held id props physical attrs e asked (list_any (has_physical id) s.held) refl
+      by_request (Request.Update id props) true (Reply.Failed c) e none asked = absurd (true≢false none)
+      by_request (Request.Delete id) restores a e none asked = absurd asked
+      by_request r restores a e none asked = quiet token p i named _ _ a (and_no (is_update p.request) false refl)
 
-  -- an answer to an open call
-  module _ (number token before after : ℕ) (p : Pending) (i : In p s.tokens) (named : has_token token p ≡ true) where
-    abbrev heard_by : Reply → StackState → StackState
-    heard_by a t = (heard place (Entry.Outcome number token a before after) s (on_stack (closing token a t))).stack
+    -- an answer, be its call open or not
+    by_pending : (number token before after : ℕ) (a : Reply) (o : Option Pending) → pending_of token s ≡ o
+        → On (heard place (Entry.Outcome number token a before after) s (on_stack (replied token a o s))).stack
+    by_pending number token before after a None e =
+        still_goes s.tokens s.ledger _ _ (λ hid. open_of schemas s source h) (λ q. refl) (λ id n. n) ahead
+    by_pending number token before after a (Some p) e =
+        let found = found_one (has_token token) s.tokens p e in
+        by_request number token before after p found.0 found.1 p.request (is_restore token s) a refl
+        (no_restore x s fits token p found.0 found.1 ahead) (h.asked p found.0)
 
-    by_held : (id : List ℕ) (props : List (List ℕ × Data)) (physical : List ℕ) (attrs : List (List ℕ × Data)) → p.request ≡ Request.Update id props
-        → AsksForNow s p.path (Request.Update id props) → (b : Bool) → list_any (has_physical id) s.held ≡ b
-        → On (heard_by (Reply.Success physical attrs) (cond b (record s { held = where_physical id (updating props attrs) s.held })
-        (record s { made = where_physical id (updating props attrs) s.made })))
-    by_held id props physical attrs of_call (g, at, named_so, said) true e =
-        let m = updates_so schemas x s source h fits token p i named _ _ id props physical attrs of_call g at named_so said in on refl refl refl m.0 m.1
-    by_held id props physical attrs of_call (g, at, named_so, said) false e =
-        absurd (true≢false (sym (any_of (has_physical id) s.held g (found_one (is_current_at p.path) s.held g at).0 ((bytes_eq-Decides id g.physical).1 (sym named_so))) ∙ e))
+    -- an opening
+    opening_goes : (epoch : ℕ) (lanes : List (List ℕ × List ℕ)) → On (effect_at place (Entry.Opened epoch lanes) s).stack
+    opening_goes epoch lanes =
+        still_goes s.tokens (map anew s.ledger) _ _ (λ hid. open_of schemas s source h)
+        (λ q. any_filtered _ _ (map anew s.ledger) ∙ any_mapped anew _ s.ledger ∙ sym (any_filtered _ _ s.ledger)) (λ id n. sym (any_mapped anew _ s.ledger) ∙ n)
+        (record {
+          calls = each_map (λ d. (d.number ≡ s.operation) × IsTrue (goes_forward d.status)) anew s.ledger h.calls;
+          at_path = λ d b j k u. each_map (λ c. IsTrue (updates b.physical c.request) → c.path ≡ b.path) anew s.ledger (λ c l v. h.at_path c b l k v) d j u;
+        })
 
-    changes_nothing : (a : Reply) → (is_update p.request && is_success (settled_by a)) ≡ false → On (heard_by a s)
-    changes_nothing a none = let m = quiet schemas x s source h fits token p i named _ _ a none in on refl refl refl m.0 m.1
+    at_its_path : (path : List ℕ) (r : Request) → IntendsForward schemas s path r → (b : Held) → In b s.before → IsTrue (updates b.physical r) → path ≡ b.path
+    at_its_path path (Request.Update id props) (g, at, same, said, wants, first) b i u =
+        let (k, j, thing) = is_of h.held i in
+        let is_it : k ≡ g = one_held x s fits k g j (found_one (is_current_at path) s.held g at).0 (thing.physical ∙ bytes_same b.physical id u ∙ same) in
+        sym (found_at path s.held g at) ∙ sym (ap (λ r. r.path) is_it) ∙ thing.path
+    at_its_path path v1 f b i u = grind arith
 
-    by_request : (r : Request) (restores : Bool) (a : Reply) → p.request ≡ r → restores ≡ false → AsksForNow s p.path r → On (heard_by a (answered restores p.path r a s))
-    by_request (Request.Create k props) restores (Reply.Success physical attrs) e none asked =
-        let m = makes schemas x s source h fits token p i named _ _ physical attrs
-        (made_of (terms_at p.path s) (status_made (current_at p.path s.held)) p.path k props physical attrs) refl refl
-        (record { sure = refl; said = asked; ready = h.ready p i }) (ap is_update e) in
-        on refl refl refl m.0 m.1
-    by_request (Request.Update id props) restores (Reply.Success physical attrs) e none asked = by_held id props physical attrs e asked (list_any (has_physical id) s.held) refl
-    by_request (Request.Update id props) true (Reply.Failed c) e none asked = absurd (true≢false none)
-    by_request (Request.Delete id) restores a e none asked = absurd asked
-    by_request r restores a e none asked = changes_nothing a (and_no (is_update p.request) false refl)
+    module _ (number token : ℕ) (lane path : List ℕ) (r : Request) (own : number ≡ s.operation) (forward : goes_forward s.status ≡ true)
+        (may : MayIntend schemas name x out s Forward token lane path r) where
+      abbrev call_out : Pending
+      call_out = record { token = token; path = path; lane = lane; request = r }
 
-  -- an answer, be its call open or not
-  by_pending : (number token before after : ℕ) (a : Reply) (o : Option Pending) → pending_of token s ≡ o
-      → On (heard place (Entry.Outcome number token a before after) s (on_stack (replied token a o s))).stack
-  by_pending number token before after a None e =
-      let m = still_goes schemas x s source h fits s.tokens s.ledger _ _ (λ q j. open_of schemas s source h q j) (λ q. refl) (λ id n. n) (ahead schemas x s source h fits) in
-      on refl refl refl m.0 m.1
-  by_pending number token before after a (Some p) e =
-      let found = found_one (has_token token) s.tokens p e in
-      by_request number token before after p found.0 found.1 p.request (is_restore token s) a refl
-      (no_restore x s fits token p found.0 found.1 (ahead schemas x s source h fits)) (h.asked p found.0)
+      abbrev row_out : Call
+      row_out = new_call number s.status (record { token = token; path = path; lane = lane; request = r })
 
-  -- an opening
-  opening_goes : (epoch : ℕ) (lanes : List (List ℕ × List ℕ)) → On (effect_at place (Entry.Opened epoch lanes) s).stack
-  opening_goes epoch lanes =
-      let m = still_goes schemas x s source h fits s.tokens (map anew s.ledger) _ _ (λ q j. open_of schemas s source h q j)
-      (λ q. any_filtered _ _ (map anew s.ledger) ∙ any_mapped anew _ s.ledger ∙ sym (any_filtered _ _ s.ledger)) (λ id n. sym (any_mapped anew _ s.ledger) ∙ n)
-      (record {
-        calls = each_map (λ d. (d.number ≡ s.operation) × IsTrue (goes_forward d.status)) anew s.ledger h.calls;
-        at_path = λ d b j k u. each_map (λ c. IsTrue (updates b.physical c.request) → c.path ≡ b.path) anew s.ledger (λ c l v. h.at_path c b l k v) d j u;
-      }) in
-      on refl refl refl m.0 m.1
-
-  -- a call that goes out
-  asked_by : (path : List ℕ) (r : Request) → IntendsForward schemas s path r → AsksForNow s path r
-  asked_by path r f = grind arith
-
-  at_its_path : (path : List ℕ) (r : Request) → IntendsForward schemas s path r → (b : Held) → In b s.before → IsTrue (updates b.physical r) → path ≡ b.path
-  at_its_path path (Request.Create k props) f b i u = absurd (true≢false (sym u))
-  at_its_path path (Request.Update id props) (g, at, same, said, wants, first) b i u =
-      let (k, j, thing) = is_of h.held i in
-      let is_it : k ≡ g = one_held x s fits k g j (found_one (is_current_at path) s.held g at).0 (thing.physical ∙ bytes_same b.physical id u ∙ same) in
-      sym (found_at path s.held g at) ∙ sym (ap (λ r. r.path) is_it) ∙ thing.path
-  at_its_path path (Request.Delete id) f b i u = absurd f
-
-  module _ (number token : ℕ) (lane path : List ℕ) (r : Request) (own : number ≡ s.operation) (forward : goes_forward s.status ≡ true)
-      (may : MayIntend schemas name x out s Forward token lane path r) where
-    abbrev call_out : Pending
-    call_out = record { token = token; path = path; lane = lane; request = r }
-
-    abbrev row_out : Call
-    row_out = new_call number s.status (record { token = token; path = path; lane = lane; request = r })
-
-    -- no path is updated by it
-    not_updated : (q : List ℕ) → list_any (λ c. bytes_eq q c.path && (is_update c.request && succeeded c)) (filter (λ c. c.number == s.operation) (s.ledger ++ row_out ∷ []))
-        ≡ was_updated_at q s
-    not_updated q = grind (arith, any_filtered, any_no_more, and_no)
-
-    by_open : (b : Bool)
-        → On (heard place (Entry.Intent number token lane path r) s (on_stack (cond b s (record s { tokens = s.tokens ++ call_out ∷ []; ledger = s.ledger ++ row_out ∷ [] })))).stack
-    by_open true =
-        let m = still_goes schemas x s source h fits s.tokens s.ledger _ _ (λ q j. open_of schemas s source h q j) (λ q. refl) (λ id n. n) (ahead schemas x s source h fits) in
-        on refl refl refl m.0 m.1
-    by_open false = record {
-      going = refl;
-      before = refl;
-      left = λ q. unmoved (record { made = refl; held = refl; updated = not_updated q });
-      goes = λ hidden rest. record {
-        status = refl;
-        before = refl;
-        advancing = (still_goes schemas x s source h fits (s.tokens ++ call_out ∷ []) (s.ledger ++ row_out ∷ []) _ _
-            (in_more (IsOpenAhead schemas s source) call_out s.tokens (open_of schemas s source h)
-            (record { ready = may.chosen.1; not_done = may.chosen.2; asked = asked_by path r may.chosen.3; hidden = hidden token lane path r may }))
-            not_updated
-            (λ id n. sym (any_no_more _ s.ledger row_out (and_no (goes_forward s.status) _ (and_no (updates id r) _ refl))) ∙ n)
-            (record {
-              calls = in_more (λ c. (c.number ≡ s.operation) × IsTrue (goes_forward c.status)) row_out s.ledger h.calls (own, forward);
-              at_path = λ c b i j u.
-                  in_more (λ d. IsTrue (updates b.physical d.request) → d.path ≡ b.path) row_out s.ledger (λ d k v. h.at_path d b k j v)
-                  (at_its_path path r may.chosen.3 b j) c i u;
-            })).1 rest;
-      };
-    }
+      by_open : (b : Bool)
+          → On (heard place (Entry.Intent number token lane path r) s (on_stack (cond b s (record s { tokens = s.tokens ++ call_out ∷ []; ledger = s.ledger ++ row_out ∷ [] })))).stack
+      by_open true =
+          still_goes s.tokens s.ledger _ _ (λ hid. open_of schemas s source h) (λ q. refl) (λ id n. n) ahead
+      by_open false =
+          still_goes (s.tokens ++ call_out ∷ []) (s.ledger ++ row_out ∷ []) _ _
+          (λ hid. in_more (IsOpenAhead schemas s source) call_out s.tokens (open_of schemas s source h)
+          (record { ready = may.chosen.1; not_done = may.chosen.2; asked = grind arith; hidden = hid.calls token lane path r may }))
+          (λ q. grind (arith, any_filtered, any_no_more, and_no))
+          (λ id n. sym (any_no_more _ s.ledger row_out (and_no (goes_forward s.status) _ (and_no (updates id r) _ refl))) ∙ n)
+          (record {
+            calls = in_more (λ c. (c.number ≡ s.operation) × IsTrue (goes_forward c.status)) row_out s.ledger h.calls (own, forward);
+            at_path = λ c b i j u.
+                in_more (λ d. IsTrue (updates b.physical d.request) → d.path ≡ b.path) row_out s.ledger (λ d k v. h.at_path d b k j v)
+                (at_its_path path r may.chosen.3 b j) c i u;
+          })
 
 -- nothing is kept in the forward phase
 pub keeps_nothing : (out : List ℕ) (s : StackState) (path physical : List ℕ) (w : Why) → MayKeep Forward out s path physical w → ⊥
@@ -543,9 +498,6 @@ none_begins k = grind (arith, only_forward)
 -- a later phase, and an end, leave another status, whatever the operation was in
 turned_back : (z : Status) (p : Phase) → goes_forward (turned z p) ≡ false
 turned_back z p = grind arith
-
-ends_rest : (schemas : List Schema) (name : List ℕ) (x : World) (s : StackState) (z state : Status) → EndsAs schemas name x s z state → goes_forward state ≡ false
-ends_rest schemas name x s z state e = grind arith
 
 -- what is written as the phase goes on: a call that may go out, an answer, an opening, or what is of another stack
 pub data IsAhead (schemas : List Schema) (x : World) (out name : List ℕ) (s : StackState) : Entry → StackState → Type 0 where
@@ -565,7 +517,7 @@ module _ (schemas : List Schema) (x : World) (out name : List ℕ) (s : StackSta
   stepped (Entry.Intent number token lane path r) own may on = asks number token lane path r own may
   stepped (Entry.Outcome number token a before after) own may on = hears number token before after a may.1
   stepped (Entry.Phase number p c) own may on = grind (arith, turned_status, turned_back)
-  stepped (Entry.Done number state failed) own may on = grind (arith, ended_status, ends_rest)
+  stepped (Entry.Done number state failed) own may on = grind (arith, ended_status)
   stepped e own may on = absurd own
 
   pub is_ahead : {e : Entry} {t : StackState} → IsTo schemas x out name s e t → goes_forward t.status ≡ true → IsAhead schemas x out name s e t
@@ -586,11 +538,7 @@ module _ (schemas : List Schema) (x : World) (out name : List ℕ) (s : StackSta
 
 pub advancing_goes_on : AdvancingGoesOn
 advancing_goes_on schemas x out e name s t source w forward on h hid =
-    (goes_by schemas x out name s source h w.fits forward (is_ahead schemas x out name s forward (written_is_to schemas x out e name s t w) on)).goes hid.calls hid.rest
-
--- What makes a stack go forward is what begins a creation or an update of it.
-was_forward : (z : Status) → goes_forward (reviewed z) ≡ true → goes_forward z ≡ true
-was_forward z e = grind arith
+    (goes_by schemas x out name s source h w.fits forward (is_ahead schemas x out name s forward (written_is_to schemas x out e name s t w) on)).goes hid
 
 abbrev pub begun_from : World → List ℕ → StackState → Begun → StackState
 begun_from x name s k = (effect_at (x.place + 1) (Entry.Begin (x.operation + 1) name k) s).stack
@@ -604,9 +552,9 @@ begins_ahead {schemas} {x} {out} {e} {name} {s} {t} w waits = by (written_moves 
   by : {d : Entry} {u : StackState} → IsMove schemas x out name s d u → goes_forward u.status ≡ true → HasBegunBy schemas x name s u
   by (move.stays same) on = absurd (true≢false (sym on ∙ ap goes_forward same ∙ waits))
   by (move.turns number p why q may) on = absurd (true≢false (sym on ∙ ap goes_forward (turned_status (x.place + 1) number p s why) ∙ turned_back s.status p))
-  by (move.ends number state failed stage q at may) on = grind (arith, ended_status, ends_rest)
+  by (move.ends number state failed stage q at may) on = grind (arith, ended_status)
   by (move.begins k from b) on = (k, from, b, refl)
-  by (move.reviewed number from rows outputs may) on = absurd (true≢false (sym (was_forward s.status on) ∙ waits))
+  by (move.reviewed number from rows outputs may) on = absurd (true≢false (sym (grind arith) ∙ waits))
   by move.other on = absurd (true≢false (sym on ∙ waits))
 
 -- where no call is open, no row is left as an operation begins
@@ -651,8 +599,7 @@ module _ (schemas : List Schema) (x : World) (s : StackState) (fits : Fits x s) 
         record { props = ap (λ g. g.props) same; attrs = ap (λ g. g.attrs) same; unsure = ap (λ g. g.unsure) same };
     single_made = λ r i. elim i [ ];
     made = λ r i. elim i [ ];
-    updated = λ path u.
-        absurd (true≢false (sym u ∙ ap (λ cs. list_any (λ c. bytes_eq path c.path && (is_update c.request && succeeded c)) (filter (λ c. c.number == operation) cs)) (none_kept_of s none_open)));
+    updated = grind (arith, none_kept_of);
     ready = λ p i. no_open p i;
     not_done = λ p i. no_open p i;
     asked = λ p i. no_open p i;
@@ -660,9 +607,6 @@ module _ (schemas : List Schema) (x : World) (s : StackState) (fits : Fits x s) 
     calls = λ c i. no_call c i;
     at_path = λ c b i j u. no_call c i;
   }
-
-differ : Status.UpdateInProgress ≡ Status.CreateInProgress → ⊥
-differ e = let no : ⊥ = cc in no
 
 -- what begins
 by_begun :
@@ -672,11 +616,11 @@ by_begun :
 by_begun schemas x place number name (Begun.Create source) s fits from by on free =
     let f = free (ap (λ b. b || updates_from s.status) from) in
     let goes = begins_so schemas x s fits f.0 f.1 _ _ _ _ _ (source_for name number source) _ name by in
-    (source_for name number source, record { creates = λ e. from; updates = λ e. absurd (differ (sym e)); before = refl; advancing = goes })
+    (source_for name number source, record { creates = λ e. from; updates = λ e. absurd (cc); before = refl; advancing = goes })
 by_begun schemas x place number name (Begun.Update source) s fits from by on free =
     let f = free (or_right (creates_from s.status) (updates_from s.status) from) in
     let goes = begins_so schemas x s fits f.0 f.1 _ _ _ _ _ (source_for name s.number source) _ name by in
-    (source_for name s.number source, record { creates = λ e. absurd (differ e); updates = λ e. from; before = refl; advancing = goes })
+    (source_for name s.number source, record { creates = λ e. absurd (cc); updates = λ e. from; before = refl; advancing = goes })
 by_begun schemas x place number name k s fits from by on free = absurd (true≢false (sym on))
 
 pub advancing_begins : AdvancingBegins
@@ -689,13 +633,5 @@ advancing_begins schemas x out e name s t w rests on free = by (begins_ahead w (
       subst (λ u. goes_forward u.status ≡ true → (source : Source) × HasBegunForward schemas s u source) q
       (λ g. by_begun schemas x (x.place + 1) (x.operation + 1) name k s w.fits from b g free) on
 
--- a stack at rest, and one of which nothing is left, are free to begin
-cleared : (s : StackState) → IsCleared s → (s.tokens ≡ []) × AreSingle s.held
-cleared s c = (c.settled.none_open, λ r i. elim (subst (In r) c.none_held i) [ ])
-
-free_by : (schemas : List Schema) (name : List ℕ) (x : World) (s : StackState) (z : Status) → IsOnCourse schemas name x s z → (creates_from z || updates_from z) ≡ true
-    → (s.tokens ≡ []) × AreSingle s.held
-free_by schemas name x s z c e = grind (arith, cleared)
-
 pub course_is_free : CourseIsFree
-course_is_free schemas name x s c = free_by schemas name x s s.status c
+course_is_free schemas name x s c = λ e. grind arith

@@ -1,25 +1,28 @@
 -- Whatever happens in the life of an engine, each stack stays on its course, and keeps what its status promises.
-use Rattle.std.proofs.Common.{◌⊎◌, inl, inr, arith, ◌≡◌, ◌∙◌, ℕ, ◌+◌, List, [], true, false, Option, Some, None, refl, sym, ap, subst, true≢false, ◌∷◌, ◌++◌, ◌||◌, ◌≢◌, Bool, filter}
-use Rattle.cf_core.proofs.Words.{Act, Appends, AreDescribed, AreKept, AreSameThings, AreSchemas, AreSteady, BackClean, BecomesBy, Begin, Begun, Cause, ChangeSet, Clean, DescribedIsKept, End, EndsAs, Entry, Event, Fits, Forward, StaysForward, Grant, HasBegunForward, HasNext, Held, HoldsWhole, In, IsAdvancing, IsBegin, IsBlamed, IsChangeSet, IsCleaning, IsCleared, IsGivenUpIn, IsGranted, IsLife, IsMove, IsNoBegin, IsOnCourse, IsOnce, IsSteady, IsTidying, IsTo, IsTold, IsUnmaking, IsWritten, Lane, Lease, LeavesApart, Left, Life, MayBegin, Happens, MayTurn, Opened, Pending, Phase, Raise, Repeat, Request, Schema, Settle, Source, StackState, StartIsDescribed, Status, World, lane_acted, appended, at_opening, begins_from, begun, bytes_eq, cleaned_in, continues_from, creates_from, deletes_from, deletes_nothing, effect_at, empty_world, ends, failed_of, first_again, fold_of, found, goes_forward, granted, is_cleared, is_failed_status, is_going, is_in_progress, is_opening, known_stack, lease_at, life_after, more as more_same, no_stack, none as none_same, of_rollback, of_update, other as another, own as is_own, repeated, reviewed as review, stack_at, stack_for, stack_of_operation, stage_of, stays as goes_on, tokens_out, turned, turns, updates_from, world_after, world_of}
-use Rattle.cf_core.proofs.Lemmas.{all_in, empty_list, empty_parts, found_one, found_stands, in_filter, in_kept, none_false, or_left, or_right}
-use Rattle.cf_core.proofs.WholeKept.{creation_is_whole, update_is_whole, cleanup_keeps_whole, rest_keeps_whole, update_ends_at_rest, course_keeps_promise, held_is_found}
+use Rattle.std.proofs.Common.{arith, ◌≡◌, ◌∙◌, ℕ, ◌+◌, List, [], true, false, Option, Some, None, refl, sym, ap, subst, true≢false, ◌∷◌, ◌++◌, ◌||◌, ◌≢◌, Bool, filter}
+use Rattle.cf_core.proofs.Words.{Act, Appends, AreDescribed, AreKept, AreSchemas, AreSteady, BackClean, BecomesBy, Begin, Begun, Cause, ChangeSet, Clean, DescribedIsKept, End, EndsAs, Entry, Event, Fits, Forward, StaysForward, Grant, HasBegunForward, HasNext, Held, HoldsWhole, In, IsAdvancing, IsBlamed, IsCleared, IsGivenUpIn, IsHeldAtRest, IsLife, IsMove, IsNoBegin, IsOnCourse, IsOnce, IsSteady, IsTo, IsTold, IsUnmaking, IsWritten, Lane, LeavesApart, Life, MayBegin, Happens, MayTurn, Opened, Pending, Phase, Raise, Repeat, Request, Schema, Settle, Source, StackState, StartIsDescribed, Status, World, appended, begins_from, begun, bytes_eq, continues_from, creates_from, deletes_from, deletes_nothing, effect_at, empty_world, ends, failed_of, fold_of, found, goes_forward, granted, is_cleared, is_failed_status, is_going, is_in_progress, is_opening, known_stack, life_after, no_stack, of_rollback, of_update, other as another, reviewed as review, stack_at, stack_for, stack_of_operation, stage_of, stays as goes_on, tokens_out, turned, turns, updates_from, world_after, world_of}
+use Rattle.cf_core.proofs.Lemmas.{all_in, empty_list, empty_parts, found_one, found_stands, in_kept, none_false, or_left, or_right}
+use Rattle.cf_core.proofs.WholeKept.{creation_is_whole, nothing_held, update_is_whole, cleanup_keeps_whole, rest_keeps_whole, update_ends_at_rest, course_keeps_promise, held_is_found}
 use Rattle.cf_core.proofs.BackLaws.{back_holds, cleanup_stays, failed_stay, rest_stays, updates_back, updates_turn}
 use Rattle.cf_core.proofs.KeepSound.{event_keeps, event_writes, outcome_new, reviews_idle, start_is_sound_life}
 use Rattle.cf_core.proofs.Statuses.{begun_status, ended_status, turned_status, begun_goes, turned_goes}
 use Rattle.cf_core.proofs.MoreStacks.{completes_begun_stays, leaves_once_stays, lists_given_up_stays}
-use Rattle.cf_core.proofs.{GoingOn.operation_goes_on, TidyBegins.back_tidying_begins, TidyBegins.nothing_deleted, TidyBegins.tidying_begins}
-use Rattle.cf_core.proofs.{MoreApart.leaves_apart_stays, MoreLives.leases_once_stays, MoreLives.settles_once_stays, MoreLives.start_is_once}
-use Rattle.cf_core.proofs.{BlameFailed.failed_blamed, BlameStays.none_booked, BlameStays.stays_booked, FitKept.after_lanes, FitKept.at_known}
-use Rattle.cf_core.proofs.{HidCalls.advancing_stays, HidCalls.none_is_ordered, HidCalls.order_stays, TidyLaws.tidying_stays}
-use Rattle.cf_core.proofs.{GoingTold.told_begins, GoingTold.told_stays, Moving.numbered_so, Moving.written_is_to, Moving.written_moves}
-use Rattle.cf_core.proofs.{AdvSteps.advancing_begins, AdvSteps.course_is_free, Stacks.is_working, Stacks.once_here, Stacks.stands_on}
-use Rattle.cf_core.proofs.{BackSkips.updates_skip, HidSeen.shape_stays, Settling.fold_more, Settling.held_is_live, TidyEnds.tidying_ends}
+use Rattle.cf_core.proofs.Cleanups.{back_tidying_begins, nothing_deleted, tidying_begins, cleaning_of, of_cleaning, of_cleaning_back, tidying_stays, tidying_ends}
+use Rattle.cf_core.proofs.MoreLives.{leases_once_stays, settles_once_stays, start_is_once}
+use Rattle.cf_core.proofs.HidCalls.{advancing_stays, none_is_ordered, order_stays}
+use Rattle.cf_core.proofs.Moving.{numbered_so, written_is_to, written_moves}
+use Rattle.cf_core.proofs.Stacks.{is_working, once_here, stands_on}
 use Rattle.cf_core.specs.StatusMoves.{StatusMoves, WrittenMovesStatus, stays, reviewed, creates, updates, deletes, continues, creation_back, created, unmade, unmaking_failed, cleans, updated, update_back, back_cleans, rolled_back, back_failed, deleted, deletion_failed}
 use Rattle.cf_core.specs.Theorem.{EventHolds, HoldsAlways, HoldsKeepsPromises, LivesKeepPromises, OperationsGoOn, StartHolds}
 use Rattle.cf_core.specs.Unmade.{ClearedStays, EndsCleared, UnmakingBegins, UnmakingStays, leaves_nothing}
 use Rattle.cf_core.specs.Returning.{IsAfterBack, IsAfterBackClean, IsAfterFailed, IsAfterReturn}
-use Rattle.cf_core.specs.{Back.IsGoingBack, Blaming.HoldsIfWhole, Moving.begins, Moving.other, Moving.reviewed as is_reviewed}
+use Rattle.cf_core.specs.Moving.{begins, other, reviewed as is_reviewed}
 use Rattle.cf_core.specs.OnCourse.{IsOnWay, IsSupported, WayIsKept}
+use Rattle.cf_core.proofs.{GoingOn.operation_goes_on, MoreApart.leaves_apart_stays, BlameFailed.failed_blamed, BlameStays.none_booked}
+use Rattle.cf_core.proofs.{BlameStays.stays_booked, FitKept.after_lanes, FitKept.at_known, GoingTold.told_begins, GoingTold.told_stays}
+use Rattle.cf_core.proofs.{AdvSteps.advancing_begins, AdvSteps.course_is_free, BackSteps.updates_skip, HidSeen.shape_stays}
+use Rattle.cf_core.proofs.Settling.{held_is_live}
+use Rattle.cf_core.specs.{Back.IsGoingBack, Blaming.HoldsIfWhole}
 use Rattle.cf_plan.proofs.Members.{in_none}
 use Rattle.cf_stacks.proofs.Folded.{folded_more}
 use Rattle.std.specs.{Option.option_map, Option.unwrap_or, Prelude.IsTrue, Prelude.is_some}
@@ -27,19 +30,6 @@ use Rattle.cf_core.specs.SoundLife as sound
 use Rattle.cf_core.specs.Written as to
 
 -- Each type of the lanes that were handed in has a schema, in every life.
-
--- a change set, a beginning and what an operation writes are no openings
-no_opening : (e : Entry) → IsChangeSet e ⊎ IsBegin e ⊎ IsGranted e → is_opening e ≡ false
-no_opening e h = grind arith
-
-granted_entries : (end : End) (e : Entry) (life : Life) → (granted end e life).entries ≡ life.entries
-granted_entries end e life = grind arith
-
-repeated_entries : (o : Option Lease) (life : Life) → (repeated o life).entries ≡ life.entries
-repeated_entries o life = grind arith
-
-acted_entries : (left : Left) (o : Option Lease) (life : Life) → (lane_acted left o life).entries ≡ life.entries
-acted_entries left o life = grind arith
 
 -- What is so of the entries of a life, and of those with one more that an event appends, is so of those after the event.
 module _ (l : Life) (P : List Entry → Type 0) (same : P l.entries) where
@@ -51,10 +41,10 @@ module _ (l : Life) (P : List Entry → Type 0) (same : P l.entries) where
       ended end (Entry.Opened epoch lanes) (record l { leases = []; is_open = true; has_granted = false; is_stopped = false }) refl (more _ [] sound.opened)
   entries_after (ChangeSet e end) more = ended end e l refl (more e [] sound.set)
   entries_after (Begin e end) more = ended end e l refl (more e (tokens_out l) sound.begun)
-  entries_after (Grant e end) more = subst P (sym (granted_entries end e (appended end e l))) (ended end e l refl (more e (tokens_out l) sound.granted))
+  entries_after (Grant e end) more = subst P (sym (grind arith)) (ended end e l refl (more e (tokens_out l) sound.granted))
   entries_after (Settle token e end) more = ended end e l refl (more e (tokens_out l) sound.settled)
-  entries_after (Repeat token) more = subst P (sym (repeated_entries (first_again token (world_of l).stacks) l)) same
-  entries_after (Act token reply left) more = subst P (sym (acted_entries left (lease_at token l) l)) same
+  entries_after (Repeat token) more = subst P (sym (grind arith)) same
+  entries_after (Act token reply left) more = subst P (sym (grind arith)) same
   entries_after (Raise name a true before counted) more = same
   entries_after ev more = same
 
@@ -68,9 +58,9 @@ module _ (schemas : List Schema) (life : Life) (d : AreDescribed schemas (world_
       let of_life = may.2.there_are l i in
       let there = (found_one (λ (m : Lane). bytes_eq l.0 m.name) life.lanes of_life.0 of_life.1).0 in
       ap (λ (n : List ℕ × List ℕ). is_some (found n.1 schemas)) of_life.2 ∙ all_in (λ (m : Lane). is_some (found m.kind schemas)) life.lanes s.described of_life.0 there
-  described_more s (sound.set {e}) may = described_by e (no_opening e (inl may.1))
-  described_more s (sound.begun {e}) may = described_by e (no_opening e (inr (inl may.2)))
-  described_more s (sound.granted {e}) may = described_by e (no_opening e (inr (inr may.1)))
+  described_more s (sound.set {e}) may = described_by e (grind arith)
+  described_more s (sound.begun {e}) may = described_by e (grind arith)
+  described_more s (sound.granted {e}) may = described_by e (grind arith)
   described_more s (sound.settled {e = e}) may = described_by e (outcome_new may.1 may.2 e may.5)
 
 pub described_kept : DescribedIsKept
@@ -148,24 +138,16 @@ pub ends_cleared : EndsCleared
 ends_cleared schemas name x out s stage place number state failed (none_out, at_end, as_said, are_failed) l =
     all_gone place number failed s (ends_with_nothing schemas name x s s.status state l as_said) state l
 
--- Each entry leaves it so, as long as its status stays.
-unmaking_as : {s t : StackState} → t.held ≡ s.held → t.before ≡ s.before → IsUnmaking s → IsUnmaking t
-unmaking_as held before u = record { none_before = before ∙ u.none_before; none_held = held ∙ u.none_held }
-
 module _ (schemas : List Schema) (x : World) (out : List ℕ) (name : List ℕ) (s : StackState) (u : IsUnmaking s) where
   to_none : {e : Entry} {t : StackState} → t.status ≡ Status.RollbackInProgress → IsTo schemas x out name s e t → IsUnmaking t
-  to_none still h = grind (arith, begun_status, unmaking_as)
+  to_none still h = grind (arith, begun_status)
 
 pub unmaking_stays : UnmakingStays
 unmaking_stays schemas x out e name s t w still u = to_none schemas x out name s u still (written_is_to schemas x out e name s t w)
 
 -- Where a creation goes back, nothing was held before, and so nothing is.
-same_none : {bs hs : List Held} → AreSameThings bs hs → bs ≡ [] → hs ≡ []
-same_none none_same e = refl
-same_none (more_same one rest) e = let no : ⊥ = cc in absurd no
-
 pub unmaking_begins : UnmakingBegins
-unmaking_begins schemas s source a before = record { none_before = before; none_held = same_none a.held before }
+unmaking_begins schemas s source a before = record { none_before = before; none_held = nothing_held s.before s.held a.held before }
 
 -- What is cleared stays so until an operation begins.
 module _ (schemas : List Schema) (x : World) (out : List ℕ) (name : List ℕ) (s : StackState) (rests : is_in_progress s.status ≡ false) (c : IsCleared s) where
@@ -184,9 +166,6 @@ cleared_stays schemas x out e name s t w rests still c = to_clear schemas x out 
 -- What the course of its operations gives of a stack, whatever its status.
 
 module _ (schemas : List Schema) (name : List ℕ) (x : World) (s : StackState) where
-  nothing_open : (a : Status) → IsTrue (creates_from a || updates_from a) → IsOnCourse schemas name x s a → (s.tokens ≡ []) × (s.made ≡ [])
-  nothing_open a b c = grind (arith, true≢false)
-
   given_up : IsGoingBack s → (p : Pending) → In p s.tokens → IsGivenUpIn s p p.request
   given_up g p i = by p.request refl
     where
@@ -197,7 +176,7 @@ module _ (schemas : List Schema) (name : List ℕ) (x : World) (s : StackState) 
 
   pub steady : IsOnCourse schemas name x s s.status → IsSteady s
   steady c = record {
-    rests = λ b. nothing_open s.status b c;
+    rests = λ b. (grind (arith, true≢false));
     restores = λ was. (back_holds s (subst (IsOnCourse schemas name x s) was c)).before;
     gives_up = λ was. given_up (subst (IsOnCourse schemas name x s) was c).0;
   }
@@ -218,14 +197,9 @@ cleans_by : (number : ℕ) (p : Phase) (why : Option Cause) → turned Status.Up
 cleans_by number Phase.Clean why e = (number, why, refl)
 cleans_by number p why e = let no : ⊥ = cc in absurd no
 
-begun_other : (k : Begun) → begun k ≡ Status.UpdateCompleteCleanupInProgress → ⊥
-begun_other k e = grind arith
-
 module _ (schemas : List Schema) (x : World) (out : List ℕ) (name : List ℕ) (s : StackState) where
   -- where no operation is in progress after an entry, none begins by it on the stack
   begins_none : (number : ℕ) (n : List ℕ) (k : Begun) (t : StackState) → known_stack name x ≡ s → MayBegin schemas x number n k → BecomesBy x (Entry.Begin number n k) name s t → is_in_progress t.status ≡ false → n ≢ name
-  begins_none number n k t was may (is_own q) rests same = true≢false (sym (ap is_in_progress (begun_status (x.place + 1) n number k s) ∙ begun_goes k) ∙ rests)
-  begins_none number n k t was may (at_opening q) rests same = true≢false (sym q)
   begins_none number n k t was may (another q none) rests same = by k may.1 none
     where
       -- where the stack is there the entry is of it, and on none no operation begins that needs one
@@ -240,10 +214,10 @@ module _ (schemas : List Schema) (x : World) (out : List ℕ) (name : List ℕ) 
       by (Begun.Update source) from never = there (stack_at n x) updates_from refl from never
       by (Begun.Delete paths) from never = there (stack_at n x) deletes_from refl from never
       by (Begun.Continue paths) from never = there (stack_at n x) continues_from refl from never
+  begins_none number n k t was may v6 rests same = grind (arith, begun_status, begun_goes)
 
   no_begin : (e : Entry) (t : StackState) → IsWritten schemas x out e name s t → is_in_progress t.status ≡ false → IsNoBegin name e
-  no_begin (Entry.Begin number n k) t w rests = begins_none number n k t w.was w.may w.becomes rests
-  no_begin e t w rests = tt
+  no_begin e t w rests = grind (arith, begins_none, w.was, w.may, w.becomes)
 
   -- an end, and the beginning of a cleanup, are by these entries
   is_end : {e : Entry} {t : StackState} (a b : Status) → s.status ≡ a → t.status ≡ b → is_in_progress a ≡ true → is_in_progress b ≡ false → IsMove schemas x out name s e t
@@ -255,45 +229,25 @@ module _ (schemas : List Schema) (x : World) (out : List ℕ) (name : List ℕ) 
   is_end a b was now g r (is_reviewed number source rows outputs from) = absurd (unreviewed s.status from (ap is_in_progress was ∙ g))
   is_end a b was now g r other = absurd (true≢false (sym g ∙ ap is_in_progress (sym was ∙ now) ∙ r))
 
-  ends_other : (a b : Status) → a ≡ Status.UpdateInProgress → EndsAs schemas name x s a b → ⊥
-  ends_other a b e h = grind arith
-
   is_clean : {e : Entry} {t : StackState} → s.status ≡ Status.UpdateInProgress → t.status ≡ Status.UpdateCompleteCleanupInProgress → IsMove schemas x out name s e t
       → (number : ℕ) × (why : Option Cause) × (e ≡ Entry.Phase number Phase.Clean why)
   is_clean was now (goes_on same) = let no : Status.UpdateInProgress ≡ Status.UpdateCompleteCleanupInProgress = sym was ∙ sym same ∙ now in absurd cc
   is_clean was now (turns number p why q may) = cleans_by number p why (ap (λ (a : Status). turned a p) (sym was) ∙ sym (turned_status (x.place + 1) number p s why) ∙ now)
-  is_clean was now (ends number state failed stage q at may) = absurd (ends_other s.status state was may.2)
-  is_clean was now (begins k from by) = absurd (begun_other k (sym (begun_status (x.place + 1) name (x.operation + 1) k s) ∙ now))
+  is_clean was now (ends number state failed stage q at may) = absurd (grind (arith, may.2))
+  is_clean was now (begins k from by) = absurd (grind (arith, sym (begun_status (x.place + 1) name (x.operation + 1) k s) ∙ now))
   is_clean was now (is_reviewed number source rows outputs from) = absurd (unreviewed s.status from (ap is_in_progress was))
   is_clean was now other = let no : Status.UpdateInProgress ≡ Status.UpdateCompleteCleanupInProgress = sym was ∙ now in absurd cc
 
--- where a creation begins nothing is held
-creating_none : (schemas : List Schema) (name : List ℕ) (x : World) (s : StackState) (a : Status) → IsTrue (creates_from a) → IsOnCourse schemas name x s a → s.held ≡ []
-creating_none schemas name x s a b c = grind (arith, true≢false)
-
--- What the cleanup of an update is, as the two cleanups are told alike.
-tidying_of : {name : List ℕ} {x : World} {s : StackState} → IsCleaning name x s → IsTidying (cleaned_in Clean s) s
-tidying_of {s = s} c = record {
-  calls = λ p i. let d = c.calls p i in (d.0, in_kept (λ (r : Held). r.superseded) s.held d.0 d.1 d.2, d.3, d.4);
-  tried = λ r i. let f = in_filter (λ (v : Held). v.superseded) s.held r i in c.tried r f.0 f.1;
-}
-
-cleaning_of : {name : List ℕ} {x : World} {s : StackState} → HoldsWhole name x s → IsTidying (cleaned_in Clean s) s → IsCleaning name x s
-cleaning_of {s = s} h k = record {
-  whole = h;
-  calls = λ p i. let d = k.calls p i in let f = in_filter (λ (v : Held). v.superseded) s.held d.0 d.1 in (d.0, f.0, f.1, d.2, d.3);
-  tried = λ r i superseded. k.tried r (in_kept (λ (v : Held). v.superseded) s.held r i superseded);
-}
-
 -- an end leaves what was before as it was
 module _ (schemas : List Schema) (x : World) (out : List ℕ) (name : List ℕ) (s : StackState) where
-  before_ended : (number : ℕ) (b : Status) (failed : List (List ℕ)) → IsTrue (leaves_nothing b) → (effect_at (x.place + 1) (Entry.Done number b failed) s).stack.before ≡ s.before
-  before_ended number b failed l = grind (arith, true≢false)
-
   cleared_by : {t : StackState} (number : ℕ) (b : Status) (failed : List (List ℕ)) → IsTrue (leaves_nothing b) → s.status ≢ t.status → IsMove schemas x out name s (Entry.Done number b failed) t
       → IsCleared t × (t.before ≡ s.before)
   cleared_by number b failed l differ (goes_on same) = absurd (differ (sym same))
-  cleared_by number b failed l differ (ends number' b' failed' stage q at may) = (ends_cleared schemas name x out s stage (x.place + 1) number b failed may l, before_ended number b failed l)
+  cleared_by number b failed l differ (ends number' b' failed' stage q at may) = (
+    ends_cleared schemas name x out s stage
+        (x.place + 1) number b failed may l,
+    grind (arith, true≢false),
+  )
   cleared_by number b failed l differ other = absurd (differ refl)
 
 module _ (schemas : List Schema) (x : World) (out : List ℕ) (e : Entry) (name : List ℕ) (s t : StackState) (w : IsWritten schemas x out e name s t)
@@ -315,12 +269,12 @@ module _ (schemas : List Schema) (x : World) (out : List ℕ) (e : Entry) (name 
   still Status.CreateInProgress was now (source, h, none) = let g = forward Status.CreateInProgress was now refl source h in (source, g.advancing, g.before ∙ none)
   still Status.UpdateInProgress was now (source, h) = (source, (forward Status.UpdateInProgress was now refl source h).advancing)
   still Status.UpdateCompleteCleanupInProgress was now c =
-      cleaning_of (cleanup_keeps_whole schemas x out e name s t w was c.calls c.whole).0
-      (tidying_stays schemas x out e name s t Clean Status.UpdateCompleteCleanupInProgress w of_update was now (tidying_of c))
+      cleaning_of name (world_after x e) t (cleanup_keeps_whole schemas x out e name s t w was c.calls c.whole).0
+      (tidying_stays schemas x out e name s t Clean Status.UpdateCompleteCleanupInProgress w of_update was now (of_cleaning name x s c))
   still Status.RollbackInProgress was now u = unmaking_stays schemas x out e name s t w now u
   still Status.UpdateRollbackInProgress was now g = subst (IsAfterBack t) now (updates_back schemas x out e name s t w was g)
   still Status.UpdateRollbackCompleteCleanupInProgress was now c =
-      let k = tidying_stays schemas x out e name s t BackClean Status.UpdateRollbackCompleteCleanupInProgress w of_rollback was now (record { calls = c.calls; tried = c.tried }) in
+      let k = tidying_stays schemas x out e name s t BackClean Status.UpdateRollbackCompleteCleanupInProgress w of_rollback was now (of_cleaning_back s c) in
       record { back = subst (IsAfterBackClean s t) now (cleanup_stays schemas x out e name s t w was c.back c.calls); calls = k.calls; tried = k.tried }
   still Status.CreateComplete was now (h, r) = let k = rest_keeps_whole schemas x out e name s t w (ap stage_of was) (no_begin schemas x out name s e t w (ap is_in_progress now)) h r in (k.0.0, k.1)
   still Status.UpdateComplete was now (h, r) = let k = rest_keeps_whole schemas x out e name s t w (ap stage_of was) (no_begin schemas x out name s e t w (ap is_in_progress now)) h r in (k.0.0, k.1)
@@ -340,49 +294,49 @@ module _ (schemas : List Schema) (x : World) (out : List ℕ) (e : Entry) (name 
       (course_is_free schemas name x s (subst (IsOnCourse schemas name x s) (sym was) c))
 
   -- the entry that ends an operation
-  ended_by : (a b : Status) → s.status ≡ a → t.status ≡ b → is_in_progress a ≡ true → is_in_progress b ≡ false → (number : ℕ) × (failed : List (List ℕ)) × (e ≡ Entry.Done number b failed)
-  ended_by a b was now goes rests = is_end schemas x out name s a b was now goes rests (written_moves w)
+  ended_so : (a b : Status) → s.status ≡ a → t.status ≡ b → is_in_progress a ≡ true → is_in_progress b ≡ false → a ≢ b → (P : Entry → Type 0)
+      → ((number : ℕ) (failed : List (List ℕ)) → IsWritten schemas x out (Entry.Done number b failed) name s t → s.status ≢ t.status → P (Entry.Done number b failed))
+      → P e
+  ended_so a b was now goes rests d P h =
+      let (number, failed, is) = is_end schemas x out name s a b was now goes rests (written_moves w) in
+      subst P (sym is) (h number failed (subst (λ (f : Entry). IsWritten schemas x out f name s t) is w) (differ a b was now d))
 
   cleared : (a b : Status) → s.status ≡ a → t.status ≡ b → is_in_progress a ≡ true → is_in_progress b ≡ false → a ≢ b → IsTrue (leaves_nothing b) → IsCleared t × (t.before ≡ s.before)
   cleared a b was now goes rests d l =
-      let by = ended_by a b was now goes rests in
-      cleared_by schemas x out name s by.0 b by.1 l (differ a b was now d) (subst (λ (f : Entry). IsMove schemas x out name s f t) by.2 (written_moves w))
+      ended_so a b was now goes rests d (λ f. IsCleared t × (t.before ≡ s.before)) (λ number failed v n. cleared_by schemas x out name s number b failed l n (written_moves v))
 
   moved : (a b : Status) → s.status ≡ a → t.status ≡ b → StatusMoves a b → Now a → After b
   moved a b was now stays c = still a was now c
   moved a b was now reviewed c = (cleared_stays schemas x out e name s t w (ap is_in_progress was) (ap is_in_progress now) c).0
   moved a b was now (creates from) c =
-      let k = begun_source a Status.CreateInProgress was now (reviews_idle a (or_left (creates_from a) (updates_from a) from)) refl c in (k.0, k.1.advancing, k.1.before ∙ creating_none schemas name x s a from c)
+      let k = begun_source a Status.CreateInProgress was now (reviews_idle a (or_left (creates_from a) (updates_from a) from)) refl c in (k.0, k.1.advancing, k.1.before ∙ (grind (arith, true≢false)))
   moved a b was now (updates from) c = let k = begun_source a Status.UpdateInProgress was now (reviews_idle a (or_right (creates_from a) (updates_from a) from)) refl c in (k.0, k.1.advancing)
   moved a b was now (deletes from) c = tt
   moved a b was now continues c = subst (IsAfterFailed t) now (failed_stay schemas x out e name s t w was c.0)
   moved a b was now creation_back c = unmaking_stays schemas x out e name s t w now (unmaking_begins schemas s c.0 c.1 c.2)
   moved a b was now created c =
-      let by = ended_by Status.CreateInProgress Status.CreateComplete was now refl refl in
-      let d = differ Status.CreateInProgress Status.CreateComplete was now (λ k. cc) in
-      let k = creation_is_whole schemas x out by.0 by.1 name s t c.0 (subst (λ (f : Entry). IsWritten schemas x out f name s t) by.2 w) d c.1 (shape_stays schemas s c.0 c.1) c.2 in
-      (subst (λ (f : Entry). HoldsWhole name (world_after x f) t) (sym by.2) k.0, k.1)
+      ended_so Status.CreateInProgress Status.CreateComplete was now refl refl (λ k. cc) (λ f. HoldsWhole name (world_after x f) t × IsHeldAtRest t)
+      (λ number failed v d. creation_is_whole schemas x out number failed name s t c.0 v d c.1 (shape_stays schemas s c.0 c.1) c.2)
   moved a b was now unmade c = let k = cleared Status.RollbackInProgress Status.RollbackComplete was now refl refl (λ d. cc) refl in (k.0, k.1 ∙ c.none_before)
   moved a b was now unmaking_failed c = blamed (ap is_failed_status now)
   moved a b was now cleans c =
       let by = is_clean schemas x out name s was now (written_moves w) in
       let d = differ Status.UpdateInProgress Status.UpdateCompleteCleanupInProgress was now (λ k. cc) in
       let k = update_is_whole schemas x out by.0 by.1 name s t c.0 (subst (λ (f : Entry). IsWritten schemas x out f name s t) by.2 w) d c.1 (shape_stays schemas s c.0 c.1) in
-      cleaning_of (subst (λ (f : Entry). HoldsWhole name (world_after x f) t) (sym by.2) k.0)
+      cleaning_of name (world_after x e) t (subst (λ (f : Entry). HoldsWhole name (world_after x f) t) (sym by.2) k.0)
       (tidying_begins schemas x out e name s t c.0 w was now c.1 (supported.undeleted (ap deletes_nothing was)))
   moved a b was now updated c =
-      let by = ended_by Status.UpdateCompleteCleanupInProgress Status.UpdateComplete was now refl refl in
-      let d = differ Status.UpdateCompleteCleanupInProgress Status.UpdateComplete was now (λ k. cc) in
-      let z = tidying_ends schemas x out e name s t Clean Status.UpdateCompleteCleanupInProgress w of_update was (λ same. d (was ∙ sym same)) (tidying_of c) in
-      let k = update_ends_at_rest schemas x out by.0 by.1 name s t (subst (λ (f : Entry). IsWritten schemas x out f name s t) by.2 w) d c.whole (none_left (λ (r : Held). r.superseded) s.held z.0.1) z.0.0 in
-      (subst (λ (f : Entry). HoldsWhole name (world_after x f) t) (sym by.2) k.0, k.1)
+      ended_so Status.UpdateCompleteCleanupInProgress Status.UpdateComplete was now refl refl (λ k. cc) (λ f. HoldsWhole name (world_after x f) t × IsHeldAtRest t)
+      (λ number failed v d.
+      let z = tidying_ends schemas x out e name s t Clean Status.UpdateCompleteCleanupInProgress w of_update was (λ same. d (was ∙ sym same)) (of_cleaning name x s c) in
+      update_ends_at_rest schemas x out number failed name s t v d c.whole (none_left (λ (r : Held). r.superseded) s.held z.0.1) z.0.0)
   moved a b was now update_back c = updates_turn schemas x out e name s t c.0 w was c.1 (supported.skips_none was) now
   moved a b was now back_cleans c =
       let k = back_tidying_begins schemas x out e name s t w was now (supported.undeleted (ap deletes_nothing was)) in
       record { back = (subst (IsAfterBack t) now (updates_back schemas x out e name s t w was c)).0; calls = k.calls; tried = k.tried }
   moved a b was now rolled_back c =
       let d = differ Status.UpdateRollbackCompleteCleanupInProgress Status.UpdateRollbackComplete was now (λ k. cc) in
-      let z = tidying_ends schemas x out e name s t BackClean Status.UpdateRollbackCompleteCleanupInProgress w of_rollback was (λ same. d (was ∙ sym same)) (record { calls = c.calls; tried = c.tried }) in
+      let z = tidying_ends schemas x out e name s t BackClean Status.UpdateRollbackCompleteCleanupInProgress w of_rollback was (λ same. d (was ∙ sym same)) (of_cleaning_back s c) in
       let k = subst (IsAfterBackClean s t) now (cleanup_stays schemas x out e name s t w was c.back c.calls) in (k.0, k.1 z.0.0 z.0.1)
   moved a b was now back_failed c = (subst (IsAfterBack t) now (updates_back schemas x out e name s t w was c), blamed (ap is_failed_status now))
   moved a b was now deleted c = (cleared Status.DeleteInProgress Status.DeleteComplete was now refl refl (λ d. cc) refl).0
@@ -400,10 +354,7 @@ module _ (schemas : List Schema) (name : List ℕ) (x : World) (s : StackState) 
 -- so the stack is on its way
 pub way_kept : WayIsKept
 way_kept schemas x out e name s t w described once k = record {
-  course = record {
-    stage = stage;
-    booked = stays_booked schemas x out e name s t w k.course (holds_whole schemas name (world_after x e) t t.status stage);
-  };
+  course = grind (arith, stage, stays_booked, holds_whole, k.course);
   supported = record {
     ordered = order_stays schemas x out e name s t w k.supported.ordered;
     skips_none = updates_skip schemas x out e name s t w k.supported.skips_none;
@@ -449,11 +400,11 @@ module _ (schemas : List Schema) (l : Life) (h : HoldsAlways schemas l) where
   known_once : (name : List ℕ) → IsOnce (known_stack name (world_of l))
   known_once name =
       at_known IsOnce (world_of l) name (record { ids = refl; left = λ i r k. let no : ⊥ = cc in absurd no; tokens = refl })
-      (λ s e. once_here (world_of l).stacks (world_of l).stacks name s s (stands_on (world_of l) name s h.sound.orderly.own e).one h.sound.orderly.own)
+      (λ s e. once_here (stands_on (world_of l) name s h.sound.orderly.own e).one h.sound.orderly.own)
 
   -- one more entry
   ways_more : (ev : Event) (e : Entry) (out : List ℕ) → Appends l ev e out → Happens schemas l ev → AreOnWay schemas (fold_of empty_world (l.entries ++ e ∷ []))
-  ways_more ev e out appends may = subst (AreOnWay schemas) (sym (fold_more empty_world l.entries e)) now
+  ways_more ev e out appends may = subst (AreOnWay schemas) (folded_more empty_world l.entries e) now
     where
       now : AreOnWay schemas (world_after (world_of l) e)
       now name t there =
@@ -465,7 +416,7 @@ module _ (schemas : List Schema) (l : Life) (h : HoldsAlways schemas l) where
 
   apart : (ev : Event) → Happens schemas l ev → LeavesApart (world_of (life_after l ev))
   apart ev may = entries_after l (λ es. LeavesApart (fold_of empty_world es)) h.leaves ev (λ e out appends.
-      subst LeavesApart (sym (fold_more empty_world l.entries e))
+      subst LeavesApart (folded_more empty_world l.entries e)
       (leaves_apart_stays schemas (world_of l) out e (event_writes schemas l ev e out appends may are_steady h.sound) h.sound.orderly.own h.leaves))
 
   holds_after : (ev : Event) → Happens schemas l ev → HoldsAlways schemas (life_after l ev)

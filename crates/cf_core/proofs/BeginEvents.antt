@@ -1,15 +1,12 @@
 -- Each row is the call that the journal has, and each resource was made by a create that was answered: each entry keeps that.
-use Rattle.std.proofs.Common.{◌≡◌, ◌⊎◌, inl, inr, ℕ, ◌+◌, List, [], ◌∷◌, ◌++◌, Bool, true, false, Option, Some, None, refl, sym, ap, subst, ◌∙◌, true≢false, find, unwrap_or, arith, map, ◌==◌, not, ◌&&◌, ◌||◌, filter}
-use Rattle.cf_core.proofs.Words.{Account, Agrees, Answer, Answered, AreApart, AreOwn, AreSound, AreSteady, AreWritten, BecomesBy, Begun, Books, Call, CallEnd, Called, Data, Dict, Entry, GivenUp as LostCall, HaveOrigins, Held, In, IsGivenUpIn, IsLocal, IsMade, IsMadeBy, IsNew, HasNextNumber, IsOfItsLane, IsOfLane, IsOnce, IsOrderly, IsOutcomeOf, IsSteady, Lane, Lanes, Lease, Leftover as Left, MayDrop, MayFollow, MayKeep, StacksByName, OneStack, Open, Pending, Reply, Request, Resource, Response, Role, RoleMove, Row, Schema, Settled, Settlement, Source, StackState, Stage, Stale, Status, Stranger, Thing, Ties, Why, World, account_of, account_with, all_differ, answered, answered_call, as_before, at_opening, begins_from, bytes_eq, call_in, called_of, called_as, called_by, changed_by, cleaned_in, closing, cond, continues_from, creates_from, doubted, dropped, effect_at, settled_under, for_good, given_up, good_reply, has_leftover, has_physical, has_token, heard, held_in, here, id_named, is_among, is_at_rest, is_create, is_create_at, is_created, is_in_progress, is_opened_since, is_opening, is_restore, keeping_unknown, kept_role, known_stack, lane_of, lanes_of, lease_of, list_any, lost_create, lost_on, named_by, lane_types, named_lane, of_create, of_doubted, on_stack, open_as, open_in, option_map, option_or, other as is_other, own as is_own, pending_of, put, replied, reply_in, resources_of, rested, resting_in, reviewed, role_found, role_in, role_on, skipped_creates, skipped_in, stack_at, stack_for, stack_of_operation, there, thing_of, told_in, unknown_id, updates_from, where_call, world_after}
-use Rattle.cf_core.proofs.Lemmas.{any_of, bytes_eq-Decides, bytes_or, eq-eqb, eqb-true, find-append, find_mapped, found_one, in_back, in_either, in_filter, in_front, in_kept, in_more, into_mapped, is_found_in, list_any-append, one_id, one_number, or_left, or_right, other_bytes, put_else, put_here, some_of}
+use Rattle.std.proofs.Common.{◌≡◌, ◌⊎◌, inl, inr, ℕ, ◌+◌, List, [], ◌∷◌, ◌++◌, Bool, true, false, Option, Some, None, refl, sym, ap, subst, ◌∙◌, true≢false, find, arith, map, ◌==◌, not, ◌&&◌, ◌||◌, filter}
+use Rattle.cf_core.proofs.Words.{Account, Agrees, Answer, Answered, AreApart, AreOwn, AreSound, AreSteady, AreWritten, BecomesBy, Begun, Books, Call, CallEnd, Called, Cause, Data, Dict, Entry, GivenUp as LostCall, HaveOrigins, Held, In, IsGivenUpIn, IsLocal, IsMade, IsMadeBy, IsNew, HasNextNumber, IsOfItsLane, IsOfLane, IsOnce, IsOrderly, IsOutcomeOf, IsSteady, Lane, Lanes, Lease, Leftover as Left, MayDrop, MayFollow, MayKeep, StacksByName, OneStack, Open, Pending, Phase, Reply, Request, Resource, Response, Role, RoleMove, Row, Schema, Settled, Settlement, Source, StackState, Stage, Stale, Status, Thing, Ties, Why, World, account_of, account_with, all_differ, answered, answered_call, as_before, at_opening, bytes_eq, call_in, called_of, called_as, called_by, changed_by, closing, cond, creates_from, doubted, effect_at, settled_under, for_good, given_up, good_reply, has_leftover, has_physical, has_token, heard, held_in, here, id_named, is_among, is_at_rest, is_create_at, is_created, is_in_progress, is_opened_since, is_opening, is_restore, keeping_unknown, kept_role, known_stack, lane_of, lanes_of, lease_of, list_any, lost_create, lost_on, named_by, lane_types, named_lane, of_create, of_doubted, on_stack, open_as, open_in, option_map, option_or, other as is_other, own as is_own, pending_of, replied, reply_in, resources_of, resting_in, reviewed, role_found, role_in, role_on, skipped_creates, skipped_in, stack_for, stack_of_operation, there, thing_of, told_in, unknown_id, updates_from, where_call, world_after}
+use Rattle.cf_core.proofs.Lemmas.{map_in, any_of, bytes_eq-Decides, bytes_or, eq-eqb, eqb-true, find-append, find_mapped, found_one, in_back, in_either, in_filter, in_front, in_kept, in_more, in_one, into_mapped, is_found_in, list_any-append, one_id, one_number, or_left, or_right, other_bytes, put_else, put_here, some_is, some_of}
 use Rattle.cf_agree.specs.Moves.{GivenUp, stays}
-use Rattle.cf_core.proofs.{Stacks.call_more, Stacks.on_one, Stacks.open_own, Stacks.told_more, Stacks.IsOnOne, Stacks.is_working, Stacks.not_resting, Stacks.once_here, Stacks.resting_same, Stacks.role_here, Stacks.role_now, Stacks.role_same, Stacks.told_same, Stacks.one_is_put, Stacks.on_bool, Stacks.on_option, Outcomes.gone_without, Outcomes.keeps_known, Outcomes.kept_may, Outcomes.kept_moves, Outcomes.kept_stack, Outcomes.found_none, Outcomes.quiet_moves, Outcomes.alike_quiet, Outcomes.dropped_moves, Outcomes.passes, Outcomes.gives, Outcomes.left_more, Statuses.intended_way, FitKept.IsLeftBy, FitKept.IsLess, FitKept.IsSameBut, FitKept.IsSameCall, FitKept.Key, FitKept.Stands, FitKept.fitting_lane, FitKept.gone as is_gone, FitKept.has_other, FitKept.in_keyed, FitKept.intends_named, FitKept.key_of, FitKept.keys_of, FitKept.known_steady, FitKept.left_by, FitKept.less_self, FitKept.made as is_made, FitKept.opening_less, FitKept.own_less, FitKept.rows_answered, FitKept.same as is_same, FitKept.same_call, FitKept.stack_known, FitKept.stands_by, FitKept.with_key, FitKept.at_known, FitKept.after_stacks, FitKept.differ_keyed, FitKept.from_mapped, FitKept.keeps_skipped, FitKept.put_by, FitKept.after_lanes, FitKept.IsPlain, Settling.found_name, Settling.map_some, Settling.orderly_on, Settling.there_is, Settling.named_found, BlameStays.deleted_listed}
+use Rattle.cf_core.proofs.{Stacks.call_more, Stacks.on_one, Stacks.open_of, Stacks.told_more, Stacks.IsOnOne, Stacks.stacks_after, Stacks.is_working, Stacks.not_resting, Stacks.once_here, Stacks.resting_same, Stacks.role_of, Stacks.role_now, Stacks.role_same, Stacks.told_same, Stacks.on_bool, Stacks.on_option, Outcomes.gone_without, Outcomes.keeps_known, Outcomes.kept_may, Outcomes.kept_moves, Outcomes.kept_stack, Outcomes.found_none, Outcomes.quiet_moves, Outcomes.alike_quiet, Outcomes.dropped_moves, Outcomes.passes, Outcomes.gives, Outcomes.Quiet, Outcomes.phase_moves, Outcomes.phase_quiet, Outcomes.done_moves, Outcomes.done_quiet, Outcomes.left_more, Statuses.intended_way, FitKept.IsLeftBy, FitKept.IsLess, FitKept.IsSameBut, FitKept.IsSameCall, FitKept.Key, FitKept.Stands, FitKept.fitting_lane, FitKept.gone as is_gone, FitKept.has_other, FitKept.in_keyed, FitKept.intends_named, FitKept.key_of, FitKept.keys_of, FitKept.known_steady, FitKept.left_by, FitKept.less_self, FitKept.made as is_made, FitKept.opening_less, FitKept.own_less, FitKept.rows_answered, FitKept.same as is_same, FitKept.same_call, FitKept.stack_known, FitKept.stands_by, FitKept.with_key, FitKept.at_known, FitKept.after_stacks, FitKept.differ_keyed, FitKept.keeps_skipped, FitKept.put_by, FitKept.after_lanes, FitKept.IsPlain, Settling.found_name, Settling.map_some, Settling.orderly_on, Settling.there_is, Settling.named_found, BlameStays.deleted_listed}
 use Rattle.cf_plan.specs.Lanes.{written_in}
-use Rattle.cf_plan.specs.Lanes.{call_at}
 use Rattle.cf_agree.proofs.{Keeps.drop_keeps, Keeps.rest_keeps, Words.same_bytes, Words.bytes_same}
 use Rattle.std.specs.Bool.{IsTrue}
-use Rattle.cf_agree.specs.Base as base
-use Rattle.cf_core.specs.Fitting as fitting
 
 -- Where the rows and the resources of a stack come from: from before the entry, or from the call that it writes down or answers.
 
@@ -18,15 +15,10 @@ abbrev pub IsNewRow : Entry → Call → Type 0
 IsNewRow e d = (p : Pending) × (written_in e ≡ Some p) × (d.token ≡ p.token) × (called_by d ≡ called_as p)
 
 -- the entry answers an open create, and the answer names the resource
-pub record IsNewResource (x : World) (e : Entry) (name : List ℕ) (s : StackState) (r : Held) : Type 0 where
-  pub mine : stack_for e x ≡ Some (name, s)
-  pub answer : Response
-  pub attrs : List (List ℕ × Data)
-  pub pending : Pending
-  pub told : reply_in e ≡ Some answer
-  pub success : answer.answer ≡ Reply.Success r.physical attrs
-  pub open_ : pending_of answer.token s ≡ Some pending
-  pub create : named_by pending.request ≡ None
+abbrev pub IsNewResource : World → Entry → List ℕ → StackState → Held → Type 0
+IsNewResource x e name s r =
+    (stack_for e x ≡ Some (name, s)) × (answer : Response) × (attrs : List (List ℕ × Data)) × (p : Pending) × (reply_in e ≡ Some answer)
+    × (answer.answer ≡ Reply.Success r.physical attrs) × (pending_of answer.token s ≡ Some p) × (named_by p.request ≡ None)
 
 pub record ComesFrom (x : World) (e : Entry) (name : List ℕ) (s t : StackState) : Type 0 where
   pub rows : (d : Call) → In d t.ledger → ((c : Call) × In c s.ledger × IsSameCall c d) ⊎ IsNewRow e d
@@ -54,9 +46,6 @@ from_outcome :
     (x : World) (name : List ℕ) (s : StackState) (number token : ℕ) (a : Reply) (before after : ℕ) → stack_for (Entry.Outcome number token a before after) x ≡ Some (name, s)
     → ComesFrom x (Entry.Outcome number token a before after) name s (effect_at (x.place + 1) (Entry.Outcome number token a before after) s).stack
 from_outcome x name s number token a before after mine = by (pending_of token s) refl where
-  e : Entry
-  e = Entry.Outcome number token a before after
-
   rows : (u : StackState) (ps : List Pending) → IsSameBut s u → (d : Call) → In d (where_call token (answered_call a) u.ledger) → (c : Call) × In c s.ledger × IsSameCall c d
   rows u ps b d i = (rows_answered token a ps s.ledger).from d (subst (λ cs. In d (where_call token (answered_call a) cs)) b.ledger i)
 
@@ -70,16 +59,7 @@ from_outcome x name s number token a before after mine = by (pending_of token s)
     rows = λ d i. inl (rows u [] but d i);
     resources = λ q i.
         in_more (λ z. ((y : Held) × In y (resources_of s) × (y.physical ≡ z.physical)) ⊎ IsNewResource x (Entry.Outcome number token a before after) name s z) h (resources_of s) (λ z j. inl (z, j, refl))
-        (inr (record {
-          mine = mine;
-          answer = record { token = token; answer = a; before = before; after = after };
-          attrs = attrs;
-          pending = p;
-          told = refl;
-          success = g ∙ ap (λ n. Reply.Success n attrs) (sym id_is);
-          open_ = k;
-          create = ap named_by f;
-        }))
+        (inr (mine, record { token = token; answer = a; before = before; after = after }, attrs, p, refl, g ∙ ap (λ n. Reply.Success n attrs) (sym id_is), k, ap named_by f))
         q (subst (In q) is i);
   }
 
@@ -111,12 +91,9 @@ module _ (schemas : List Schema) (x : World) (out : List ℕ) (apart : AreApart 
 pub names_same : (r : Request) → id_named r ≡ named_by r
 names_same r = grind arith
 
-first_stays : {A B : Type 0} (f : A → B) (o q : Option A) (b : B) → option_map f o ≡ Some b → option_map f (option_or o q) ≡ Some b
-first_stays f o q b e = grind arith
-
 -- what the journal has it keeps
 pub call_kept : (es : List Entry) (e : Entry) (t : ℕ) (c : Called) → call_in es t ≡ Some c → call_in (es ++ e ∷ []) t ≡ Some c
-call_kept es e t c h = ap (option_map called_as) (call_more es e t) ∙ first_stays called_as (call_at t es) (call_at t (e ∷ [])) c h
+call_kept es e t c h = ap (option_map called_as) (call_more es e t) ∙ (grind arith)
 
 told_kept : (es : List Entry) (e : Entry) (t : ℕ) (y : Settlement) → told_in es t ≡ Some y → told_in (es ++ e ∷ []) t ≡ Some y
 told_kept es e t y h = told_more es e t ∙ ap (λ o. option_or o (told_in (e ∷ []) t)) h
@@ -127,10 +104,6 @@ made_kept es e id (u, c, attrs, told, call, create) = (u, c, attrs, told_kept es
 -- a call that the journal has now it had before, or the entry writes it down
 call_back : (es : List Entry) (e : Entry) (t : ℕ) (c : Called) → call_in (es ++ e ∷ []) t ≡ Some c → (call_in es t ≡ Some c) ⊎ ((p : Pending) × (written_in e ≡ Some p) × (called_as p ≡ c))
 call_back es e t c h = grind (arith, call_more)
-
--- the call that an entry writes down under a token that has none
-call_new : (es : List Entry) (e : Entry) (p : Pending) → written_in e ≡ Some p → call_in es p.token ≡ None → call_in (es ++ e ∷ []) p.token ≡ Some (called_as p)
-call_new es e p w none = grind (arith, call_more, eq-eqb)
 
 -- an answer for good that an entry writes down for a call that has none
 told_new : (es : List Entry) (e : Entry) (r : Response) (y : Settlement) → reply_in e ≡ Some r → for_good r.answer ≡ Some y → told_in es r.token ≡ None → told_in (es ++ e ∷ []) r.token ≡ Some y
@@ -146,17 +119,13 @@ module _ (es : List Entry) (x : World) where
   -- an open call of a stack is open
   pub open_there : AreOwn x.stacks → (e : Entry) → is_opening e ≡ false → (name : List ℕ) (s : StackState) → stack_for e x ≡ Some (name, s) → (t : ℕ) (p : Pending) → pending_of t s ≡ Some p → open_in x.stacks t ≡ Some (open_as name p)
   open_there separate e n name s mine t p k =
-      let at = on_one e x name s separate n mine in
-      open_own x.stacks (changed_by (x.place + 1) e x).stacks name s (effect_at (x.place + 1) e s).stack at.one t (open_as name p) ((at.unshared).tokens t p k).0 (ap (option_map (open_as name)) k)
+      open_of (on_one e x name s separate n mine) t p k
 
 -- the types of the lanes of the last opening
 pub named_there : (lanes : List (List ℕ × List ℕ)) (l : List ℕ × List ℕ) → In l lanes → (k : List ℕ) × (lane_types lanes l.0 ≡ Some k)
 named_there lanes l i =
     let (m, f) = is_found_in (λ (q : List ℕ × List ℕ). bytes_eq l.0 q.0) lanes l i ((bytes_eq-Decides l.0 l.0).1 refl) in
     (m.1, ap (option_map (λ (q : List ℕ × List ℕ). q.1)) f)
-
-no_opening : (e : Entry) (r : Response) → reply_in e ≡ Some r → is_opening e ≡ false
-no_opening e r h = grind arith
 
 module _ (schemas : List Schema) (es : List Entry) (x : World) (lanes : List Lane) (out : List ℕ) (e : Entry) (may : MayFollow schemas x out e) (apart : AreApart x) (own : AreOwn x.stacks) (steady : AreSteady x)
     (books : Books (account_of es x)) (origins : HaveOrigins es x lanes) where
@@ -166,28 +135,20 @@ module _ (schemas : List Schema) (es : List Entry) (x : World) (lanes : List Lan
     pub named : (id : List ℕ) → named_by p.request ≡ Some id → IsMadeBy es id
     pub lane : (k : List ℕ) × (lane_types x.lanes p.lane ≡ Some k)
 
-  intent_known : (number token : ℕ) (lane path : List ℕ) (r : Request) → MayFollow schemas x out (Entry.Intent number token lane path r) → IsKnownCall (record { token = token; path = path; lane = lane; request = r })
-  intent_known number token lane path r (name, s, stage, at, is, m) =
-      let p : Pending = record { token = token; path = path; lane = lane; request = r } in
+  known_call : (d : Entry) → MayFollow schemas x out d → (p : Pending) → written_in d ≡ Some p → IsKnownCall p
+  known_call (Entry.Intent number token lane path r) (name, s, stage, at, is, m) p w =
+      let q : Pending = record { token = token; path = path; lane = lane; request = r } in
       let known = stack_known x apart (Entry.Intent number token lane path r) name s at in
-      record {
+      subst IsKnownCall (some_is q p w) (record {
         next = m.next;
         named = λ id n.
-            let (q, i, f, g) = intends_named stage schemas name x s path r id (subst IsSteady known (known_steady x steady name)) m.chosen (names_same r ∙ n) in
-            subst (IsMadeBy es) f (known_made es x lanes origins name s known q i);
+            let (h, i, f, g) = intends_named stage schemas name x s path r id (subst IsSteady known (known_steady x steady name)) m.chosen (names_same r ∙ n) in
+            subst (IsMadeBy es) f (known_made es x lanes origins name s known h i);
         lane =
-            let (l, i, (f, g)) = fitting_lane x p r refl m.fits in
+            let (l, i, (f, g)) = fitting_lane x q r refl m.fits in
             let (k, h) = named_there x.lanes l i in (k, ap (lane_types x.lanes) (sym f) ∙ h);
-      }
-
-  known_call : (d : Entry) → MayFollow schemas x out d → (p : Pending) → written_in d ≡ Some p → IsKnownCall p
-  known_call (Entry.Intent number token lane path r) m p w =
-      let one : record { token = token; path = path; lane = lane; request = r } ≡ p = ap (λ (o : Option Pending). unwrap_or o p) w in
-      subst IsKnownCall one (intent_known number token lane path r m)
+      })
   known_call d m p w = absurd (cc)
-
-  none_called : (t : ℕ) → t ≡ x.token + 1 → call_in es t ≡ None
-  none_called t next = on_option (call_in es t) (λ f. f) (λ c f. let low = books.numbers t c f in absurd (omega arith))
 
   pub written_kept : AreWritten es x → AreWritten (es ++ e ∷ []) (world_after x e)
   written_kept h name t c g i =
@@ -197,23 +158,22 @@ module _ (schemas : List Schema) (es : List Entry) (x : World) (lanes : List Lan
             let called_of : called_by b ≡ called_by c = λ k. record { path = sym s.path k; lane = sym s.lane k; request = sym s.request k } in
             ap (call_in (es ++ e ∷ [])) s.token ∙ call_kept es e b.token (called_by b) (known_written es x h name f.stack f.known b j) ∙ ap Some called_of
             )
-        | inr (p, w, k, s) ↦ ap (call_in (es ++ e ∷ [])) k ∙ call_new es e p w (none_called p.token (known_call e may p w).next) ∙ ap Some (sym s)
+        | inr (p, w, k, s) ↦ ap (call_in (es ++ e ∷ [])) k ∙ (grind (arith, call_more, eq-eqb)) ∙ ap Some (sym s)
       ]
 
   pub origins_kept : (ties : Ties (account_of es x) (lanes_of lanes)) → HaveOrigins (es ++ e ∷ []) (world_after x e) lanes
   origins_kept ties = record {
     made = λ name t r g i. let f : Stands x e name t = stands_by x apart e name t g in elim ((comes_from schemas x out apart e name t may steady f).resources r i) [
       | inl (q, j, s) ↦ subst (IsMadeBy (es ++ e ∷ [])) s (made_kept es e q.physical (known_made es x lanes origins name f.stack f.known q j))
-      | inr n ↦ (
-          let token = (n.answer).token in
-          let open_ = open_there es x own e (no_opening e n.answer n.told) name f.stack n.mine token n.pending n.open_ in
-          let call = books.calls token (open_as name n.pending) open_ in (
-            token,
-            called_of (open_as name n.pending),
-            n.attrs,
-            told_new es e n.answer (Settlement.Success r.physical n.attrs) n.told (ap for_good n.success) (books.untold token (open_as name n.pending) open_),
-            call_kept es e token (called_of (open_as name n.pending)) call,
-            n.create,
+      | inr (mine, answer, attrs, p, told, success, pending, create) ↦ (
+          let o = open_as name p in
+          let open_ = open_there es x own e (grind arith) name f.stack mine answer.token p pending in (
+            answer.token,
+            called_of o,
+            attrs,
+            told_new es e answer (Settlement.Success r.physical attrs) told (ap for_good success) (books.untold answer.token o open_),
+            call_kept es e answer.token (called_of o) (books.calls answer.token o open_),
+            create,
           )
           )
     ];
@@ -249,12 +209,6 @@ module _ (es : List Entry) (x : World) (lanes : List Lane) (books : Books (accou
 
 -- What a create that is answered made is new to its stack, and has an id of its lane.
 
--- a member of a list is one of what it is mapped to, as agreement has its lists
-pub agreed_in : {A B : Type 0} (f : A → B) (xs : List A) (x : A) → In x xs → In (f x) (map f xs)
-agreed_in f [] x i = elim i [ ]
-agreed_in f (y ∷ xs) _ here = here
-agreed_in f (y ∷ xs) x (there i) = there (agreed_in f xs x i)
-
 module _ (schemas : List Schema) (es : List Entry) (x : World) (lanes : List Lane) (leases : List Lease) (h : AreSound schemas es x lanes leases) (lease : Lease) (out : In lease leases) where
   module _ (id : List ℕ) (attrs : List (List ℕ × Data)) (before after : ℕ) (replied : good_reply lease.reply ≡ Some (Settlement.Success id attrs)) where
     abbrev outcome : Entry
@@ -271,7 +225,7 @@ module _ (schemas : List Schema) (es : List Entry) (x : World) (lanes : List Lan
         let leased = (h.agrees).leased in
         let books = ((h.agrees).tied).books in
         let ties = ((h.agrees).tied).ties in
-        let member = agreed_in lease_of leases lease out in
+        let member = into_mapped lease_of leases lease out in
         let (y, at, is) = leased.replies (lease_of lease) (Settlement.Success id attrs) member replied in
         let open_ = open_there es x (h.orderly).own outcome refl name s going lease.token p pending in
         let call = books.calls lease.token (open_as name p) open_ in
@@ -307,20 +261,12 @@ module _ (schemas : List Schema) (es : List Entry) (x : World) (lanes : List Lan
 
 -- How what begins, a change set, and calls that are given up move the account.
 
--- no stack rests that did not, where the one that changes doesn't
-pub rests_less : (ss : StacksByName) (name : List ℕ) (t : StackState) → is_at_rest t ≡ false → (n : List ℕ) → resting_in (put name t ss) n ≡ true → resting_in ss n ≡ true
-rests_less ss name t off n h = grind (arith, bytes_or, put_here, put_else, other_bytes)
-
 -- A change of a stack that takes nothing of another, where no call and no resource is new.
-
--- a resource of a stack is found under its id
-pub held_is : (i : List ℕ) (s : StackState) → held_in i s ≡ find (has_physical i) (resources_of s)
-held_is i s = sym (find-append (has_physical i) s.held s.made)
 
 pub held_of : (i : List ℕ) (s : StackState) (r : Held) → In r (resources_of s) → r.physical ≡ i → (g : Held) × (held_in i s ≡ Some g)
 held_of i s r j e =
     let (g, f) = is_found_in (has_physical i) (resources_of s) r j ((bytes_eq-Decides i r.physical).1 (sym e)) in
-    (g, held_is i s ∙ f)
+    (g, (sym (find-append (has_physical i) s.held s.made)) ∙ f)
 
 -- it is the one that is found, where ids differ
 pub held_one : (i : List ℕ) (s : StackState) (r : Held) → all_differ bytes_eq (map (λ (h : Held). h.physical) (resources_of s)) ≡ true → In r (resources_of s) → r.physical ≡ i → held_in i s ≡ Some r
@@ -328,7 +274,7 @@ held_one i s r d j e =
     let (g, f) = is_found_in (has_physical i) (resources_of s) r j ((bytes_eq-Decides i r.physical).1 (sym e)) in
     let (k, t) = found_one (has_physical i) (resources_of s) g f in
     let same : g ≡ r = one_id (λ (h : Held). h.physical) (resources_of s) d g r k j (sym ((bytes_eq-Decides i g.physical).0 t) ∙ sym e) in
-    held_is i s ∙ f ∙ ap Some same
+    (sym (find-append (has_physical i) s.held s.made)) ∙ f ∙ ap Some same
 
 -- an id is left over as before, or it is that of a resource that was taken
 pub data IsLeftAlike (s s' : StackState) (i : List ℕ) : Type 0 where
@@ -338,34 +284,36 @@ pub data IsLeftAlike (s s' : StackState) (i : List ℕ) : Type 0 where
 module _ (ss : StacksByName) (name : List ℕ) (s s' : StackState) (once : IsOnce s) (d : IsLess s s') (left : (i : List ℕ) → IsLeftAlike s s' i) where
   was_held : (i : List ℕ) (h : Held) → held_in i s' ≡ Some h → (g : Held) × (held_in i s ≡ Some g)
   was_held i h e =
-      let (j, t) = found_one (has_physical i) (resources_of s') h (sym (held_is i s') ∙ e) in
+      let (j, t) = found_one (has_physical i) (resources_of s') h (sym (sym (find-append (has_physical i) s'.held s'.made)) ∙ e) in
       let (q, k, m) = with_key s (key_of h) (in_keyed d.keyed (key_of h) (into_mapped key_of (resources_of s') h j)) in
       held_of i s q k (ap (λ (z : Key). z.physical) m ∙ sym ((bytes_eq-Decides i h.physical).0 t))
 
   pub less_local : IsLocal ss name s s'
   less_local = record {
-    once = record { ids = differ_keyed (resources_of s) (resources_of s') d.keyed once.ids; left = λ i h e. not_left i h e (left i); tokens = d.tokens once.tokens };
+    once = record {
+      ids = differ_keyed (resources_of s) (resources_of s') d.keyed once.ids;
+      left = λ i h e. grind (arith, was_held);
+      tokens = d.tokens once.tokens;
+    };
     held = λ i h e. inl (was_held i h e);
-    role = λ i e. inl (let (a, b) = found_none name (held_in i s) (has_leftover i s.leftovers) e in blank i a b (held_in i s') refl (left i));
+    role = λ i e. inl (let (a, b) = found_none name (held_in i s) (has_leftover i s.leftovers) e in (grind (arith, was_held, left i)));
     tokens = λ t v e. inl (let (i, f) = found_one (has_token t) s'.tokens v e in is_found_in (has_token t) s.tokens v (d.open_ v i) f);
-  } where
-    not_left : (i : List ℕ) (h : Held) → held_in i s' ≡ Some h → IsLeftAlike s s' i → has_leftover i s'.leftovers ≡ false
-    not_left i h e k = grind (arith, was_held)
+  }
 
-    blank : (i : List ℕ) → held_in i s ≡ None → has_leftover i s.leftovers ≡ false → (o : Option Held) → held_in i s' ≡ o → IsLeftAlike s s' i → role_on name s' i ≡ Stranger
-    blank i a b o e k = grind (arith, was_held)
+-- an entry that is no opening, of the stack of this name
+module _ (schemas : List Schema) (x : World) (out : List ℕ) (o : IsOrderly x) (steady : AreSteady x) (e : Entry) (name : List ℕ) (s : StackState)
+    (n : is_opening e ≡ false) (mine : stack_for e x ≡ Some (name, s)) where
+  at_one : IsOnOne x (changed_by (x.place + 1) e x) name s (effect_at (x.place + 1) e s).stack
+  at_one = on_one e x name s o.own n mine
 
--- so it is with an entry that is no opening, no Intent and no outcome
-pub plain_orderly : (schemas : List Schema) (x : World) (out : List ℕ) (o : IsOrderly x) → AreSteady x → (e : Entry) (name : List ℕ) (s : StackState) → is_opening e ≡ false → stack_for e x ≡ Some (name, s)
-    → MayFollow schemas x out e → IsPlain schemas x out o.apart e → HasNextNumber e x → ((i : List ℕ) → IsLeftAlike s (effect_at (x.place + 1) e s).stack i) → IsOrderly (world_after x e)
-plain_orderly schemas x out o steady e name s n mine may plain next left =
-    let s' : StackState = (effect_at (x.place + 1) e s).stack in
-    let known : known_stack name x ≡ s = stack_known x o.apart e name s mine in
-    let one : OneStack x.stacks (world_after x e).stacks name s s' =
-    subst (λ ss. OneStack x.stacks ss name s s') (sym (after_stacks x e n ∙ ap (put_by x e) mine)) (subst (λ t. OneStack x.stacks (put name s' x.stacks) name t s') known (one_is_put x.stacks name s' (o.own).names)) in
-    orderly_on x e name s s' o next one
-    (less_local x.stacks name s s' (once_here x.stacks (world_after x e).stacks name s s' one o.own) (own_less schemas x out o.apart e name s mine may (subst fitting.IsSteady known (known_steady x steady name)) plain) left)
-    (after_lanes x e n)
+  -- where it is no Intent and no outcome, it takes nothing of another stack
+  pub plain_orderly : MayFollow schemas x out e → IsPlain schemas x out o.apart e → HasNextNumber e x
+      → ((i : List ℕ) → IsLeftAlike s (effect_at (x.place + 1) e s).stack i) → IsOrderly (world_after x e)
+  plain_orderly may plain next left =
+      let known : known_stack name x ≡ s = stack_known x o.apart e name s mine in
+      let less = own_less schemas x out o.apart e name s mine may (subst IsSteady known (known_steady x steady name)) plain in
+      orderly_on x e name s _ o next (subst (λ ss. OneStack x.stacks ss name s (effect_at (x.place + 1) e s).stack) (sym (stacks_after x e)) at_one.one)
+      (less_local x.stacks name s _ (once_here at_one.one o.own) less left) (after_lanes x e n)
 
 -- what is listed without an id is no leftover of any
 pub unknown_more : (i : List ℕ) (ls ms : List Left) → ((l : Left) → In l ms → l.physical ≡ unknown_id) → has_leftover i (ls ++ ms) ≡ has_leftover i ls
@@ -374,10 +322,6 @@ unknown_more i [] (m ∷ ms) h = let ih = unknown_more i [] ms (λ l j. h l (the
 unknown_more i (l ∷ ls) ms h = let ih = unknown_more i ls ms h in grind arith
 
 -- A continued rollback, and a create that is kept without an id, give up calls and nothing else that agreement rests on.
-
--- two tests that follow from each other are the same
-same_test : (a b : Bool) → (a ≡ true → b ≡ true) → (b ≡ true → a ≡ true) → a ≡ b
-same_test a b f g = grind arith
 
 -- the creates among the calls that are given_one up
 pub lost_among : (test : Pending → Bool) (ps cs : List Pending) → all_differ ◌==◌ (map (λ (p : Pending). p.token) ps) ≡ true
@@ -392,7 +336,7 @@ lost_among test ps cs once from to s s' is t =
     let same : g ≡ f.one = one_number (λ (p : Pending). p.token) ps once g f.one j i (sym (eqb-true t g.token m) ∙ eqb-true t (f.one).token f.passes) in
     ap (gives test) (e ∙ ap Some same) ∙ k in
     ap (λ gs. list_any (λ (g : LostCall). t == g.token) gs) is ∙ list_any-append (λ (g : LostCall). t == g.token) s.abandoned (map given_up cs)
-    ∙ ap (λ b. lost_on s t || b) (tokens cs ∙ same_test (list_any (has_token t) cs) (gives test (find (has_token t) ps)) forth (back (find (has_token t) ps) refl))
+    ∙ ap (λ b. lost_on s t || b) (tokens cs ∙ (grind (arith, back (find (has_token t) ps) refl)))
   where
     tokens : (qs : List Pending) → list_any (λ (g : LostCall). t == g.token) (map given_up qs) ≡ list_any (has_token t) qs
     tokens [] = refl
@@ -405,56 +349,44 @@ lost_among test ps cs once from to s s' is t =
 both : (a b : Bool) → (a && b) ≡ true → (a ≡ true) × (b ≡ true)
 both a b h = grind arith
 
-each : (a b : Bool) → a ≡ true → b ≡ true → (a && b) ≡ true
-each a b h k = grind arith
-
-wider : (a b c : Bool) → (b && c) ≡ true → ((a || b) && c) ≡ true
-wider a b c h = grind arith
-
 at_path : (path : List ℕ) (ps : List Pending) (p : Pending) → In p (filter (is_create_at path) ps) → In p ps × ((is_create_at path p && is_created p) ≡ true)
-at_path path ps p i = grind (arith, in_filter, each, both)
+at_path path ps p i = grind (arith, in_filter, both)
 
 to_path : (path : List ℕ) (ps : List Pending) (p : Pending) → In p ps → (is_create_at path p && is_created p) ≡ true → In p (filter (is_create_at path) ps)
 to_path path ps p i t = in_kept (is_create_at path) ps p i (both (is_create_at path p) (is_created p) t).0
 
 at_paths : (paths : List (List ℕ)) (ps : List Pending) (p : Pending) → In p (skipped_creates paths ps) → In p ps × ((is_among p.path paths && is_created p) ≡ true)
 at_paths [] ps p i = elim i [ ]
-at_paths (path ∷ paths) ps p i = grind (arith, at_paths paths, in_either, in_filter, both, same_bytes, bytes_same, each, or_left, wider)
+at_paths (path ∷ paths) ps p i = grind (arith, at_paths paths, in_either, in_filter, both, same_bytes, bytes_same, or_left)
 
 to_paths : (paths : List (List ℕ)) (ps : List Pending) (p : Pending) → In p ps → (is_among p.path paths && is_created p) ≡ true → In p (skipped_creates paths ps)
 to_paths [] ps p i t = absurd (true≢false (sym t))
-to_paths (path ∷ paths) ps p i t = grind (arith, to_paths paths, bytes_or, in_front, in_kept, each, both, same_bytes, in_back, other_bytes)
+to_paths (path ∷ paths) ps p i t = grind (arith, to_paths paths, bytes_or, in_front, in_kept, both, same_bytes, in_back, other_bytes)
 
 -- Where only creates are given_one up, and no role changes.
 pub may_drop_creates : (a : Account) (w : Lanes) (drop : ℕ → Bool) (role : List ℕ → Role) → Books a → ((i : List ℕ) → role i ≡ a.role i)
     → ((t : ℕ) (o : Open) → a.open_ t ≡ Some o → drop t ≡ true → named_by o.request ≡ None) → MayDrop a w drop role
 may_drop_creates a w drop role b same none = grind arith
 
-create_names : (r : Request) → is_create r ≡ true → named_by r ≡ None
-create_names r t = grind arith
-
 module _ (x y : World) (name : List ℕ) (s s' : StackState) (at : IsOnOne x y name s s') where
   -- an open call of the stack, by its token
   open_by : (t : ℕ) (p : Pending) (o : Open) → find (has_token t) s.tokens ≡ Some p → open_in x.stacks t ≡ Some o → open_as name p ≡ o
   open_by t p o k e =
-      let is = open_own x.stacks y.stacks name s s' at.one t (open_as name p) ((at.unshared).tokens t p k).0 (ap (option_map (open_as name)) k) in cc
+      let is = open_of at t p k in cc
 
   -- those that are given_one up at a path are creates
   dropped_creates : (path : List ℕ) (t : ℕ) (o : Open) → open_in x.stacks t ≡ Some o → passes (is_create_at path) (find (has_token t) s.tokens) ≡ true → named_by o.request ≡ None
-  dropped_creates path t o e d = grind (arith, passes, open_by, create_names, both)
+  dropped_creates path t o e d = grind (arith, passes, open_by, both)
 
   -- What is held at skipped paths is in doubt.
   module _ (paths : List (List ℕ)) (held : s'.held ≡ map (skipped_in paths s.before) s.held) (made : s'.made ≡ s.made) (left : (i : List ℕ) → has_leftover i s'.leftovers ≡ has_leftover i s.leftovers) where
     held_then : (i : List ℕ) → held_in i s' ≡ option_or (option_map (skipped_in paths s.before) (find (has_physical i) s.held)) (find (has_physical i) s.made)
     held_then i = cc (find_mapped (has_physical i) (skipped_in paths s.before) s.held (λ h. ap (λ (k : Key). bytes_eq i k.physical) (keeps_skipped paths s.before h)))
 
-    role_was : (i : List ℕ) (h : Held) → find (has_physical i) s.held ≡ Some h → role_in x.stacks i ≡ Resource (thing_of name h)
-    role_was i h e = role_here x.stacks y.stacks name s s' at.one i (thing_of name h) ((at.unshared).roles i h (cc)).0 (cc)
-
     role_then : (i : List ℕ) (h : Held) → find (has_physical i) s.held ≡ Some h → role_in y.stacks i ≡ Resource (thing_of name (skipped_in paths s.before h))
     role_then i h e =
         let none = ((at.unshared).roles i h (cc)).0 in let on : role_on name s' i ≡ Resource (thing_of name (skipped_in paths s.before h)) = cc (held_then i) in
-        cc (role_now x.stacks y.stacks name s s' at.one i)
+        cc (role_now at.one i)
 
     -- what a resource is after that
     in_doubt : (o : Option Held) (h : Held) → ((as_before o h).unsure ≡ true) × ((as_before o h).path ≡ h.path) × ((as_before o h).kind ≡ h.kind)
@@ -469,15 +401,15 @@ module _ (x y : World) (name : List ℕ) (s s' : StackState) (at : IsOnOne x y n
     IsSkipped i = (h : Held) × (find (has_physical i) s.held ≡ Some h) × (is_among h.path paths ≡ true)
 
     same_or : (i : List ℕ) → (role_in y.stacks i ≡ role_in x.stacks i) ⊎ IsSkipped i
-    same_or i = on_option (find (has_physical i) s.held) (λ e. inl (role_same x.stacks y.stacks name s s' at.one i (cc (held_then i, left i))))
+    same_or i = on_option (find (has_physical i) s.held) (λ e. inl (role_same at.one i (cc (held_then i, left i))))
         (λ h e. on_bool (is_among h.path paths) (λ t. inr (h, e, t))
-        (λ t. inl (role_then i h e ∙ ap (λ b. Resource (thing_of name (cond b (as_before (find (has_physical h.physical) s.before) h) h))) t ∙ sym (role_was i h e))))
+        (λ t. inl (role_then i h e ∙ ap (λ b. Resource (thing_of name (cond b (as_before (find (has_physical h.physical) s.before) h) h))) t ∙ sym (role_of at i h (cc)))))
 
     move_role : (i : List ℕ) → RoleMove (role_in x.stacks i) (role_in y.stacks i)
     move_role i = elim (same_or i) [
       | inl e ↦ stays e
       | inr (h, e, t) ↦ (let was = find (has_physical h.physical) s.before in let d = in_doubt was h in
-          doubted (thing_of name h) (thing_of name (as_before was h)) (role_was i h e) (doubted_role i h e t) refl d.1 d.2 (ap not d.0))
+          doubted (thing_of name h) (thing_of name (as_before was h)) (role_of at i h (cc)) (doubted_role i h e t) refl d.1 d.2 (ap not d.0))
     ]
 
     -- what is not left over stays a resource
@@ -515,15 +447,11 @@ module _ (x y : World) (name : List ℕ) (s s' : StackState) (at : IsOnOne x y n
 
 -- A resource that is kept, and a create that is kept without an id, keep agreement, and take nothing of another stack.
 
--- what may be kept is a resource of the stack, or an open create without an id
-cleaned_from : (stage : Stage) (s : StackState) (r : Held) → In r (cleaned_in stage s) → In r (resources_of s)
-cleaned_from stage s r i = grind (arith, in_front, in_filter, in_back)
-
 abbrev IsKeptIn : StackState → List ℕ → List ℕ → Type 0
 IsKeptIn s path physical = ((r : Held) × In r (resources_of s) × (r.physical ≡ physical)) ⊎ ((physical ≡ []) × IsTrue (list_any (is_create_at path) s.tokens))
 
 kept_which : (stage : Stage) (out : List ℕ) (s : StackState) (path physical : List ℕ) (w : Why) → MayKeep stage out s path physical w → IsKeptIn s path physical
-kept_which stage out s path physical w m = grind (arith, deleted_listed, cleaned_from)
+kept_which stage out s path physical w m = grind (arith, deleted_listed, in_front, in_filter, in_back)
 
 -- the stack whose create is kept without an id
 abbrev unknown_stack : ℕ → ℕ → List ℕ → Why → StackState → StackState
@@ -532,200 +460,171 @@ unknown_stack place number path w s = (heard place (Entry.Kept number path [] w)
 keeps_unknown : (place number : ℕ) (path : List ℕ) (w : Why) (s : StackState) → list_any (is_create_at path) s.tokens ≡ true → (effect_at place (Entry.Kept number path [] w) s).stack ≡ unknown_stack place number path w s
 keeps_unknown place number path w s t = ap (λ b. (heard place (Entry.Kept number path [] w) s (on_stack (cond b (keeping_unknown path w s) s))).stack) t
 
-module _ (schemas : List Schema) (es : List Entry) (x : World) (lanes : List Lane) (leases : List Lease) (h : AreSound schemas es x lanes leases) (steady : AreSteady x) (out : List ℕ)
-    (number : ℕ) (path physical : List ℕ) (w : Why) (name : List ℕ) (s : StackState) (going : stack_of_operation number x ≡ Some (name, s)) (may : MayFollow schemas x out (Entry.Kept number path physical w)) where
-  abbrev y : World
-  y = changed_by (x.place + 1) (Entry.Kept number path physical w) x
+-- agreement with one more entry, and what holds of the stacks after it
+abbrev pub Holds : List Entry → World → List Lane → List Lease → Entry → Type 0
+Holds es x lanes leases e = Agrees (account_with e es x) (lanes_of lanes) (map lease_of leases) × IsOrderly (world_after x e)
 
-  abbrev s' : StackState
-  s' = (effect_at (x.place + 1) (Entry.Kept number path physical w) s).stack
+module _ (schemas : List Schema) (es : List Entry) (x : World) (lanes : List Lane) (leases : List Lease) (h : AreSound schemas es x lanes leases)
+    (steady : AreSteady x) (out : List ℕ) where
+  -- an entry that is no opening, no Intent and no outcome, of the stack of this name, which becomes s'
+  module _ (e : Entry) (name : List ℕ) (s s' : StackState) (n : is_opening e ≡ false) (mine : stack_for e x ≡ Some (name, s))
+      (is : (effect_at (x.place + 1) e s).stack ≡ s') (may : MayFollow schemas x out e) (plain : IsPlain schemas x out (h.orderly).apart e)
+      (next : HasNextNumber e x) where
+    on : IsOnOne x (changed_by (x.place + 1) e x) name s s'
+    on = subst (IsOnOne x (changed_by (x.place + 1) e x) name s) is (at_one schemas x out h.orderly steady e name s n mine)
 
-  at : IsOnOne x (changed_by (x.place + 1) (Entry.Kept number path physical w) x) name s (effect_at (x.place + 1) (Entry.Kept number path physical w) s).stack
-  at = on_one (Entry.Kept number path physical w) x name s (h.orderly).own refl going
+    once : IsOnce s
+    once = once_here on.one (h.orderly).own
 
-  once : IsOnce s
-  once = once_here x.stacks y.stacks name s s' at.one (h.orderly).own
+    orderly : ((i : List ℕ) → IsLeftAlike s s' i) → IsOrderly (world_after x e)
+    orderly left =
+        plain_orderly schemas x out h.orderly steady e name s n mine may plain next (λ i. subst (λ z. IsLeftAlike s z i) (sym is) (left i))
 
-  -- a resource
-  known_holds : (r : Held) → held_in physical s ≡ Some r → Agrees (account_with (Entry.Kept number path physical w) es x) (lanes_of lanes) (map lease_of leases) × IsOrderly (world_after x (Entry.Kept number path physical w))
-  known_holds r held = (
-    subst (λ a. Agrees a (lanes_of lanes) (map lease_of leases)) (sym (kept_moves es x name s r number path physical w (h.orderly).own going held ((h.agrees).tied).books))
-        (drop_keeps (account_of es x) (lanes_of lanes) (map lease_of leases) _ (kept_role physical (role_in x.stacks)) h.agrees
-        (kept_may (account_of es x) (lanes_of lanes) physical (thing_of name r) ((h.agrees).tied).books role)),
-    plain_orderly schemas x out h.orderly steady (Entry.Kept number path physical w) name s refl going may tt tt (λ i. subst (λ z. IsLeftAlike s z i) (sym (keeps_known (x.place + 1) number path physical w s r held (lane_of physical) of_lane)) (left i (bytes_eq i physical) refl)),
-  ) where
-    role : role_in x.stacks physical ≡ Resource (thing_of name r)
-    role = role_here x.stacks y.stacks name s s' at.one physical (thing_of name r) ((at.unshared).roles physical r held).0 (ap (λ o. role_found name o (has_leftover physical s.leftovers)) held)
+    -- where it changes nothing of the account
+    stays_holds : account_with e es x ≡ account_of es x → s'.leftovers ≡ s.leftovers → Holds es x lanes leases e
+    stays_holds moves left = grind (arith, orderly, h.agrees)
 
-    of_lane : IsOfLane (lane_of physical) physical
-    of_lane = ((((h.agrees).tied).books).homes physical (thing_of name r) role).0
+    -- where it tells no call and no answer, and no other stack rests than did
+    module _ (no_call : written_in e ≡ None) (no_answer : reply_in e ≡ None) (told : account_with e es x ≡ account_of (es ++ e ∷ []) (changed_by (x.place + 1) e x))
+        (rests : (m : List ℕ) → resting_in (changed_by (x.place + 1) e x).stacks m ≡ true → resting_in x.stacks m ≡ true) where
+      quiet_holds : Quiet s s' → Holds es x lanes leases e
+      quiet_holds q = (
+        subst (λ a. Agrees a (lanes_of lanes) (map lease_of leases)) (sym (told ∙ quiet_moves es x _ e name s s' on no_call (λ u. told_same es e u no_answer) q))
+            (rest_keeps (account_of es x) (lanes_of lanes) (map lease_of leases) (resting_in (changed_by (x.place + 1) e x).stacks) h.agrees rests),
+        orderly (λ i. alike (ap (has_leftover i) q.leftovers)),
+      )
 
-    or_false : (b : Bool) → (b || false) ≡ b
-    or_false b = grind arith
+      -- some of its calls are given up
+      dropped_holds : (test : Pending → Bool) → s'.tokens ≡ filter (λ p. not (test p)) s.tokens
+          → ((t : ℕ) → lost_on s' t ≡ (lost_on s t || gives test (find (has_token t) s.tokens)))
+          → MayDrop (account_of es x) (lanes_of lanes) (λ t. passes test (find (has_token t) s.tokens)) (role_in (changed_by (x.place + 1) e x).stacks)
+          → ((i : List ℕ) → has_leftover i s'.leftovers ≡ has_leftover i s.leftovers) → Holds es x lanes leases e
+      dropped_holds test tokens lost drop left = (
+        subst (λ a. Agrees a (lanes_of lanes) (map lease_of leases))
+            (sym (told ∙ dropped_moves es x _ e name s s' on no_call (λ u. told_same es e u no_answer) test once.tokens tokens lost))
+            (rest_keeps _ (lanes_of lanes) (map lease_of leases) (resting_in (changed_by (x.place + 1) e x).stacks)
+            (drop_keeps (account_of es x) (lanes_of lanes) (map lease_of leases) _ (role_in (changed_by (x.place + 1) e x).stacks) h.agrees drop) rests),
+        orderly (λ i. alike (left i)),
+      )
 
-    left : (i : List ℕ) (b : Bool) → bytes_eq i physical ≡ b → IsLeftAlike s (kept_stack (x.place + 1) number path physical w s) i
-    left i true e = let same = bytes_same i physical e in taken r (ap (λ j. held_in j s) same ∙ held) (cc (gone_without i physical s.held same, gone_without i physical s.made same))
-    left i false e = alike (cc (left_more i s.leftovers (record { path = path; physical = physical; why = w }), or_false (list_any (λ (l : Left). bytes_eq i l.physical) s.leftovers)))
+  -- a later phase, and an end
+  pub phase_holds : (number : ℕ) (p : Phase) (c : Option Cause) → MayFollow schemas x out (Entry.Phase number p c) → Holds es x lanes leases (Entry.Phase number p c)
+  phase_holds number p c may =
+      stays_holds (Entry.Phase number p c) may.0 may.1 _ refl may.3 refl may tt tt (phase_moves es x may.0 may.1 number p c (h.orderly).own may.3)
+      (phase_quiet (x.place + 1) number p c may.1).leftovers
 
--- a create without an id
-module _ (schemas : List Schema) (es : List Entry) (x : World) (lanes : List Lane) (leases : List Lease) (h : AreSound schemas es x lanes leases) (steady : AreSteady x) (out : List ℕ)
-    (number : ℕ) (path : List ℕ) (w : Why) (name : List ℕ) (s : StackState) (going : stack_of_operation number x ≡ Some (name, s)) (may : MayFollow schemas x out (Entry.Kept number path [] w))
-    (create : list_any (is_create_at path) s.tokens ≡ true) where
-  unknown_holds : Agrees (account_with (Entry.Kept number path [] w) es x) (lanes_of lanes) (map lease_of leases) × IsOrderly (world_after x (Entry.Kept number path [] w))
-  unknown_holds = (
-    subst (λ a. Agrees a (lanes_of lanes) (map lease_of leases)) (sym moved)
-        (rest_keeps _ (lanes_of lanes) (map lease_of leases) (resting_in y1.stacks)
-        (drop_keeps (account_of es x) (lanes_of lanes) (map lease_of leases) _ (role_in y1.stacks) h.agrees
-        (may_drop_creates (account_of es x) (lanes_of lanes) _ (role_in y1.stacks) ((h.agrees).tied).books roles (dropped_creates x y1 name s t on path)))
-        (λ m r. sym (resting_same x.stacks y1.stacks name s t on.one m (not_resting s t (is_working number x name s going) refl)) ∙ r)),
-    plain_orderly schemas x out h.orderly steady (Entry.Kept number path [] w) name s refl going may tt tt (λ i. subst (λ z. IsLeftAlike s z i) (sym (keeps_unknown (x.place + 1) number path w s create)) (alike (left i))),
-  ) where
-    y1 : World
-    y1 = changed_by (x.place + 1) (Entry.Kept number path [] w) x
+  pub done_holds : (number : ℕ) (state : Status) (failed : List (List ℕ)) → MayFollow schemas x out (Entry.Done number state failed)
+      → Holds es x lanes leases (Entry.Done number state failed)
+  done_holds number state failed may =
+      stays_holds (Entry.Done number state failed) may.0 may.1 _ refl may.3 refl may tt tt (done_moves es x may.0 may.1 number state failed (h.orderly).own may.3)
+      (done_quiet (x.place + 1) number state failed may.1).leftovers
 
-    t : StackState
-    t = unknown_stack (x.place + 1) number path w s
+  -- a resource, or a create without an id, is kept
+  module _ (number : ℕ) (path : List ℕ) (w : Why) (name : List ℕ) (s : StackState) (going : stack_of_operation number x ≡ Some (name, s)) where
+    known_holds : (physical : List ℕ) → MayFollow schemas x out (Entry.Kept number path physical w) → (r : Held) → held_in physical s ≡ Some r
+        → Holds es x lanes leases (Entry.Kept number path physical w)
+    known_holds physical may r held =
+        let e : Entry = Entry.Kept number path physical w in
+        let role = role_of (at_one schemas x out h.orderly steady e name s refl going) physical r held in
+        let of_lane : IsOfLane (lane_of physical) physical = ((((h.agrees).tied).books).homes physical (thing_of name r) role).0 in (
+          subst (λ a. Agrees a (lanes_of lanes) (map lease_of leases))
+              (sym (kept_moves es x name s r number path physical w (h.orderly).own going held ((h.agrees).tied).books))
+              (drop_keeps (account_of es x) (lanes_of lanes) (map lease_of leases) _ (kept_role physical (role_in x.stacks)) h.agrees
+              (kept_may (account_of es x) (lanes_of lanes) physical (thing_of name r) ((h.agrees).tied).books role)),
+          orderly e name s _ refl going (keeps_known (x.place + 1) number path physical w s r held (lane_of physical) of_lane) may tt tt
+              (λ i. left i (bytes_eq i physical) refl),
+        )
+      where
+        left : (i : List ℕ) (b : Bool) → bytes_eq i physical ≡ b → IsLeftAlike s (kept_stack (x.place + 1) number path physical w s) i
+        left i true e = let same = bytes_same i physical e in taken r (ap (λ j. held_in j s) same ∙ held) (cc (gone_without i physical s.held same, gone_without i physical s.made same))
+        left i false e = alike (grind (arith, left_more i s.leftovers (record { path = path; physical = physical; why = w })))
 
-    on : IsOnOne x (changed_by (x.place + 1) (Entry.Kept number path [] w) x) name s (unknown_stack (x.place + 1) number path w s)
-    on = subst (λ z. IsOnOne x (changed_by (x.place + 1) (Entry.Kept number path [] w) x) name s z) (keeps_unknown (x.place + 1) number path w s create) (at schemas es x lanes leases h steady out number path [] w name s going may)
+    unknown_holds : MayFollow schemas x out (Entry.Kept number path [] w) → list_any (is_create_at path) s.tokens ≡ true
+        → Holds es x lanes leases (Entry.Kept number path [] w)
+    unknown_holds may create =
+        let e : Entry = Entry.Kept number path [] w in
+        let t : StackState = unknown_stack (x.place + 1) number path w s in
+        let is = keeps_unknown (x.place + 1) number path w s create in
+        let at = on e name s _ refl going is may tt tt in
+        let one : IsOnce s = once e name s _ refl going is may tt tt in
+        let left = λ (i : List ℕ). unknown_more i s.leftovers (record { path = path; physical = unknown_id; why = w } ∷ []) lone in
+        let roles = λ (i : List ℕ). role_same at.one i (ap (role_found name (held_in i s)) (left i)) in
+        dropped_holds e name s _ refl going is may tt tt refl refl refl
+        (λ m r. sym (resting_same at.one m (not_resting s t (is_working number x name s going) refl)) ∙ r) (is_create_at path) refl
+        (lost_among (is_create_at path) s.tokens (filter (is_create_at path) s.tokens) one.tokens (at_path path s.tokens) (to_path path s.tokens) s t refl)
+        (may_drop_creates (account_of es x) (lanes_of lanes) _ _ ((h.agrees).tied).books roles (dropped_creates x _ name s _ at path)) left
+      where
+        lone : (l : Left) → In l (record { path = path; physical = unknown_id; why = w } ∷ []) → l.physical ≡ unknown_id
+        lone l i = ap (λ (z : Left). z.physical) (in_one l _ i)
 
-    once1 : IsOnce s
-    once1 = once schemas es x lanes leases h steady out number path [] w name s going may
-
-    lone : (l : Left) → In l (record { path = path; physical = unknown_id; why = w } ∷ []) → l.physical ≡ unknown_id
-    lone _ here = refl
-    lone l (there i) = elim i [ ]
-
-    left : (i : List ℕ) → has_leftover i t.leftovers ≡ has_leftover i s.leftovers
-    left i = unknown_more i s.leftovers (record { path = path; physical = unknown_id; why = w } ∷ []) lone
-
-    roles : (i : List ℕ) → role_in y1.stacks i ≡ role_in x.stacks i
-    roles i = role_same x.stacks y1.stacks name s t on.one i (ap (role_found name (held_in i s)) (left i))
-
-    lost : (u : ℕ) → lost_on t u ≡ (lost_on s u || gives (is_create_at path) (find (has_token u) s.tokens))
-    lost = lost_among (is_create_at path) s.tokens (filter (is_create_at path) s.tokens) once1.tokens (at_path path s.tokens) (to_path path s.tokens) s t refl
-
-    moved : account_with (Entry.Kept number path [] w) es x ≡ rested (resting_in y1.stacks) (dropped (λ u. passes (is_create_at path) (find (has_token u) s.tokens)) (role_in y1.stacks) (account_of es x))
-    moved = dropped_moves es x y1 (Entry.Kept number path [] w) name s t on refl (λ u. told_same es (Entry.Kept number path [] w) u refl) (is_create_at path) once1.tokens refl lost
-
-pub kept_holds : (schemas : List Schema) (es : List Entry) (x : World) (lanes : List Lane) (leases : List Lease) → AreSound schemas es x lanes leases → AreSteady x → (out : List ℕ) (number : ℕ) (path physical : List ℕ) (w : Why)
-    → MayFollow schemas x out (Entry.Kept number path physical w) → Agrees (account_with (Entry.Kept number path physical w) es x) (lanes_of lanes) (map lease_of leases) × IsOrderly (world_after x (Entry.Kept number path physical w))
-kept_holds schemas es x lanes leases h steady out number path physical w (name, s, stage, going, is, m) = by physical m (kept_which stage out s path physical w m) where
-  by : (id : List ℕ) → MayKeep stage out s path id w → IsKeptIn s path id → Agrees (account_with (Entry.Kept number path id w) es x) (lanes_of lanes) (map lease_of leases) × IsOrderly (world_after x (Entry.Kept number path id w))
-  by id k (inl (r, i, e)) =
-      let (g, f) = held_of id s r i e in
-      known_holds schemas es x lanes leases h steady out number path id w name s going (name, s, stage, going, is, k) g f
-  by id k (inr (none, create)) =
-      subst (λ j. MayKeep stage out s path j w → Agrees (account_with (Entry.Kept number path j w) es x) (lanes_of lanes) (map lease_of leases) × IsOrderly (world_after x (Entry.Kept number path j w))) (sym none)
-      (λ z. unknown_holds schemas es x lanes leases h steady out number path w name s going (name, s, stage, going, is, z) create) k
-
--- a beginning is of the known stack of its name
-stands_known : (x : World) (n : List ℕ) → ((known_stack n x).status ≡ Status.DeleteComplete → ⊥) → option_map {U = List ℕ × StackState} (λ s. (n, s)) (stack_at n x) ≡ Some (n, known_stack n x)
-stands_known x n given = grind arith
-
-begin_stack : (x : World) (number : ℕ) (n : List ℕ) (k : Begun) → IsTrue (begins_from k (known_stack n x).status) → stack_for (Entry.Begin number n k) x ≡ Some (n, known_stack n x)
-begin_stack x number n k t = grind (arith, stands_known)
-
-continues_in : (s : Status) → continues_from s ≡ true → s ≡ Status.UpdateRollbackFailed
-continues_in s h = grind arith
-
--- a stack from which a rollback goes on is there, and rests
-rests_now : (x : World) (n : List ℕ) → continues_from (known_stack n x).status ≡ true → is_opened_since (known_stack n x) ≡ true → resting_in x.stacks n ≡ true
-rests_now x n c o = grind (arith, continues_in)
-
-module _ (schemas : List Schema) (es : List Entry) (x : World) (lanes : List Lane) (leases : List Lease) (h : AreSound schemas es x lanes leases) (steady : AreSteady x) (out : List ℕ) where
-  abbrev Holds : Entry → Type 0
-  Holds e = Agrees (account_with e es x) (lanes_of lanes) (map lease_of leases) × IsOrderly (world_after x e)
+  pub kept_holds : (number : ℕ) (path physical : List ℕ) (w : Why) → MayFollow schemas x out (Entry.Kept number path physical w)
+      → Holds es x lanes leases (Entry.Kept number path physical w)
+  kept_holds number path physical w (name, s, stage, going, is, m) = elim (kept_which stage out s path physical w m) [
+    | inl (r, i, e) ↦ (let (g, f) = held_of physical s r i e in known_holds number path w name s going physical (name, s, stage, going, is, m) g f)
+    | inr (none, create) ↦ subst (λ j. MayFollow schemas x out (Entry.Kept number path j w) → Holds es x lanes leases (Entry.Kept number path j w)) (sym none)
+        (λ z. unknown_holds number path w name s going z create) (name, s, stage, going, is, m)
+  ]
 
   -- the lanes of the open calls are raised
-  raised : ((l : Lane) → In l lanes → In (named_lane l) x.lanes → l.state.fence ≡ x.epoch) → (t : ℕ) (o : Open) → (account_of es x).open_ t ≡ Some o → ((lanes_of lanes).lane o.lane).fence ≡ x.epoch
+  abbrev AreRaised : Type 0
+  AreRaised = (l : Lane) → In l lanes → In (named_lane l) x.lanes → l.state.fence ≡ x.epoch
+
+  raised : AreRaised → (t : ℕ) (o : Open) → (account_of es x).open_ t ≡ Some o → ((lanes_of lanes).lane o.lane).fence ≡ x.epoch
   raised all t o e = grind (arith, map_some, found_name, named_found, there_is, found_one)
 
+  -- an operation begins
   module _ (number : ℕ) (n : List ℕ) (k : Begun) (may : MayFollow schemas x out (Entry.Begin number n k)) where
-    abbrev e : Entry
-    e = Entry.Begin number n k
-
-    abbrev s : StackState
-    s = known_stack n x
-
     abbrev begun_stack : StackState
     begun_stack = (effect_at (x.place + 1) (Entry.Begin number n k) (known_stack n x)).stack
 
-    abbrev begun_world : World
-    begun_world = changed_by (x.place + 1) (Entry.Begin number n k) x
-
     mine : stack_for (Entry.Begin number n k) x ≡ Some (n, known_stack n x)
-    mine = begin_stack x number n k may.1
+    mine = grind arith
 
-    begun_at : IsOnOne x (changed_by (x.place + 1) (Entry.Begin number n k) x) n s begun_stack
-    begun_at = on_one (Entry.Begin number n k) x n s (h.orderly).own refl mine
-
-    begun_once : IsOnce (known_stack n x)
-    begun_once = once_here x.stacks begun_world.stacks n s begun_stack begun_at.one (h.orderly).own
-
-    begun_orderly : ((i : List ℕ) → IsLeftAlike s begun_stack i) → IsOrderly (world_after x (Entry.Begin number n k))
-    begun_orderly left =
-        plain_orderly schemas x out h.orderly steady (Entry.Begin number n k) n s refl mine may tt (let next : number ≡ x.operation + 1 = may.0 in omega (arith, next)) left
-
-    put_is : begun_world.stacks ≡ put n begun_stack x.stacks
-    put_is = after_stacks x (Entry.Begin number n k) refl ∙ ap (put_by x (Entry.Begin number n k)) mine
+    has_next : HasNextNumber (Entry.Begin number n k) x
+    has_next = let next : number ≡ x.operation + 1 = may.0 in omega (arith, next)
 
     -- no other stack rests
-    rests : is_at_rest begun_stack ≡ false → (m : List ℕ) → resting_in begun_world.stacks m ≡ true → resting_in x.stacks m ≡ true
-    rests off m r = rests_less x.stacks n begun_stack off m (ap (λ ss. resting_in ss m) (sym put_is) ∙ r)
+    rests : is_at_rest begun_stack ≡ false → (m : List ℕ) → resting_in (changed_by (x.place + 1) (Entry.Begin number n k) x).stacks m ≡ true → resting_in x.stacks m ≡ true
+    rests off m r = grind (arith, after_stacks, put_by, mine, bytes_or, put_here, put_else, other_bytes)
 
-    begun_agrees : is_at_rest begun_stack ≡ false → begun_stack.held ≡ s.held → begun_stack.made ≡ s.made → begun_stack.leftovers ≡ s.leftovers → begun_stack.tokens ≡ s.tokens → begun_stack.abandoned ≡ s.abandoned → Holds (Entry.Begin number n k)
-    begun_agrees off held made leftovers tokens abandoned = (
-      subst (λ a. Agrees a (lanes_of lanes) (map lease_of leases)) (sym (quiet_moves es x begun_world (Entry.Begin number n k) n s begun_stack begun_at refl (λ u. told_same es (Entry.Begin number n k) u refl) (alike_quiet s begun_stack held made leftovers tokens abandoned)))
-          (rest_keeps (account_of es x) (lanes_of lanes) (map lease_of leases) (resting_in begun_world.stacks) h.agrees (rests off)),
-      begun_orderly (λ i. alike (ap (has_leftover i) leftovers)),
-    )
+    begun_quiet : is_at_rest begun_stack ≡ false → Quiet (known_stack n x) begun_stack → Holds es x lanes leases (Entry.Begin number n k)
+    begun_quiet off = quiet_holds (Entry.Begin number n k) n (known_stack n x) begun_stack refl mine refl may tt has_next refl refl refl (rests off)
 
-  continue_holds : (number : ℕ) (n : List ℕ) (paths : List (List ℕ)) (may : MayFollow schemas x out (Entry.Begin number n (Begun.Continue paths)))
-      → ((l : Lane) → In l lanes → In (named_lane l) x.lanes → l.state.fence ≡ x.epoch) → Holds (Entry.Begin number n (Begun.Continue paths))
+  continue_holds : (number : ℕ) (n : List ℕ) (paths : List (List ℕ)) → MayFollow schemas x out (Entry.Begin number n (Begun.Continue paths))
+      → AreRaised → Holds es x lanes leases (Entry.Begin number n (Begun.Continue paths))
   continue_holds number n paths may all =
+      let k : Begun = Begun.Continue paths in
+      let e : Entry = Entry.Begin number n k in
       let s : StackState = known_stack n x in
-      let e : Entry = Entry.Begin number n (Begun.Continue paths) in
-      let begun_stack : StackState = (effect_at (x.place + 1) (Entry.Begin number n (Begun.Continue paths)) (known_stack n x)).stack in
-      let begun_world : World = changed_by (x.place + 1) (Entry.Begin number n (Begun.Continue paths)) x in
-      let on = begun_at number n (Begun.Continue paths) may in
-      let once_ = begun_once number n (Begun.Continue paths) may in
+      let at = on e n s _ refl (mine number n k may) refl may tt (has_next number n k may) in
+      let one : IsOnce s = once e n s _ refl (mine number n k may) refl may tt (has_next number n k may) in
       let skipped : Pending → Bool = λ p. is_among p.path paths in
-      let left : (i : List ℕ) → has_leftover i begun_stack.leftovers ≡ has_leftover i s.leftovers =
+      let left : (i : List ℕ) → has_leftover i (begun_stack number n k may).leftovers ≡ has_leftover i s.leftovers =
       λ i. unknown_more i s.leftovers (map lost_create (skipped_creates paths s.tokens))
-      (λ l i. let (p, j, e) = from_mapped lost_create (skipped_creates paths s.tokens) l i in ap (λ (z : Left). z.physical) (sym e)) in
-      let lost = lost_among skipped s.tokens (skipped_creates paths s.tokens) once_.tokens (at_paths paths s.tokens) (to_paths paths s.tokens) s begun_stack refl in
-      let moved = dropped_moves es x begun_world e n s begun_stack on refl (λ u. told_same es e u refl) skipped once_.tokens refl lost in
-      let skips = drop_keeps (account_of es x) (lanes_of lanes) (map lease_of leases) _ (role_in begun_world.stacks) h.agrees
-      (may_skip x begun_world n s begun_stack on paths refl refl left es (lanes_of lanes) ((h.agrees).tied).books once_.ids ((known_steady x steady n).gives_up (continues_in s.status may.1)) (rests_now x n may.1 may.2.2) (raised all)) in (
-        subst (λ a. Agrees a (lanes_of lanes) (map lease_of leases)) (sym moved)
-            (rest_keeps _ (lanes_of lanes) (map lease_of leases) (resting_in begun_world.stacks) skips (rests number n (Begun.Continue paths) may refl)),
-        begun_orderly number n (Begun.Continue paths) may (λ i. alike (left i)),
-      )
+      (λ l i. let (p, j, e) = map_in lost_create l (skipped_creates paths s.tokens) i in ap (λ (z : Left). z.physical) (sym e)) in
+      dropped_holds e n s _ refl (mine number n k may) refl may tt (has_next number n k may) refl refl refl (rests number n k may refl) skipped refl
+      (lost_among skipped s.tokens (skipped_creates paths s.tokens) one.tokens (at_paths paths s.tokens) (to_paths paths s.tokens) s (begun_stack number n k may) refl)
+      (may_skip x _ n s _ at paths refl refl left es (lanes_of lanes) ((h.agrees).tied).books one.ids
+      ((known_steady x steady n).gives_up (grind arith)) (grind (arith, may.1, may.2.2)) (raised all)) left
 
-  pub begun_holds : (number : ℕ) (n : List ℕ) (k : Begun) → MayFollow schemas x out (Entry.Begin number n k) → ((l : Lane) → In l lanes → In (named_lane l) x.lanes → l.state.fence ≡ x.epoch)
-      → Agrees (account_with (Entry.Begin number n k) es x) (lanes_of lanes) (map lease_of leases) × IsOrderly (world_after x (Entry.Begin number n k))
-  begun_holds number n (Begun.Create source) may all =
-      begun_agrees number n (Begun.Create source) may refl refl (sym ((known_steady x steady n).rests (or_left (creates_from (known_stack n x).status) (updates_from (known_stack n x).status) may.1)).1) refl refl refl
-  begun_holds number n (Begun.Update source) may all =
-      begun_agrees number n (Begun.Update source) may refl refl (sym ((known_steady x steady n).rests (or_right (creates_from (known_stack n x).status) (updates_from (known_stack n x).status) may.1)).1) refl refl refl
-  begun_holds number n (Begun.Delete paths) may all = begun_agrees number n (Begun.Delete paths) may refl refl refl refl refl refl
+  pub begun_holds : (number : ℕ) (n : List ℕ) (k : Begun) → MayFollow schemas x out (Entry.Begin number n k) → AreRaised
+      → Holds es x lanes leases (Entry.Begin number n k)
   begun_holds number n (Begun.Continue paths) may all = continue_holds number n paths may all
+  begun_holds number n (Begun.Delete paths) may all = begun_quiet number n (Begun.Delete paths) may refl (alike_quiet _ _ refl refl refl refl refl)
+  begun_holds number n (Begun.Create source) may all =
+      let none = ((known_steady x steady n).rests (or_left (creates_from (known_stack n x).status) (updates_from (known_stack n x).status) may.1)).1 in
+      begun_quiet number n (Begun.Create source) may refl (alike_quiet _ _ refl (sym none) refl refl refl)
+  begun_holds number n (Begun.Update source) may all =
+      let none = ((known_steady x steady n).rests (or_right (creates_from (known_stack n x).status) (updates_from (known_stack n x).status) may.1)).1 in
+      begun_quiet number n (Begun.Update source) may refl (alike_quiet _ _ refl (sym none) refl refl refl)
 
   -- a change set
-  reviewed_idle : (st : Status) → is_in_progress (reviewed st) ≡ is_in_progress st
-  reviewed_idle st = grind arith
-
   pub set_holds : (number : ℕ) (n : List ℕ) (source : Source) (rows : List Row) (outputs : Bool) → MayFollow schemas x out (Entry.ChangeSet number n source rows outputs)
-      → Agrees (account_with (Entry.ChangeSet number n source rows outputs) es x) (lanes_of lanes) (map lease_of leases) × IsOrderly (world_after x (Entry.ChangeSet number n source rows outputs))
+      → Holds es x lanes leases (Entry.ChangeSet number n source rows outputs)
   set_holds number n source rows outputs may =
       let s : StackState = known_stack n x in
       let e : Entry = Entry.ChangeSet number n source rows outputs in
-      let begun_stack : StackState = (effect_at (x.place + 1) (Entry.ChangeSet number n source rows outputs) (known_stack n x)).stack in
-      let begun_world : World = changed_by (x.place + 1) (Entry.ChangeSet number n source rows outputs) x in
-      let on = on_one (Entry.ChangeSet number n source rows outputs) x n (known_stack n x) (h.orderly).own refl refl in
-      let rest : is_at_rest begun_stack ≡ is_at_rest s = ap (λ b. not b && is_opened_since s) (reviewed_idle s.status) in (
-        subst (λ a. Agrees a (lanes_of lanes) (map lease_of leases)) (sym (quiet_moves es x begun_world e n s begun_stack on refl (λ u. told_same es e u refl) (alike_quiet s begun_stack refl refl refl refl refl)))
-            (rest_keeps (account_of es x) (lanes_of lanes) (map lease_of leases) (resting_in begun_world.stacks) h.agrees (λ m r. sym (resting_same x.stacks begun_world.stacks n s begun_stack on.one m rest) ∙ r)),
-        plain_orderly schemas x out h.orderly steady (Entry.ChangeSet number n source rows outputs) n s refl refl may tt tt (λ i. alike refl),
-      )
+      let idle : is_in_progress (reviewed s.status) ≡ is_in_progress s.status = grind arith in
+      let at = on e n s _ refl refl refl may tt tt in
+      quiet_holds e n s _ refl refl refl may tt tt refl refl refl (λ m r. sym (resting_same at.one m (ap (λ b. not b && is_opened_since s) idle)) ∙ r)
+      (alike_quiet s _ refl refl refl refl refl)

@@ -1,29 +1,17 @@
 -- Where an operation fails, each failed path is blamed, from its end until the next one begins.
 use Rattle.std.proofs.Common.{◌≡◌, ℕ, ◌==◌, List, [], ◌∷◌, ◌++◌, Bool, true, false, ◌||◌, Option, Some, None, refl, sym, ap, ◌∙◌, option_map, ◌<◌, ◌⊎◌, inl, inr, not, subst, true≢false, arith, ◌≤◌, filter, ◌+◌, IsTrue, ◌&&◌, ◌≢◌}
-use Rattle.cf_core.proofs.TidyEnds.{at_home, none_calls}
-use Rattle.cf_core.proofs.Words.{AreSameThings, Back, BackClean, Call, Course, EndsAs, Entry, FailedAreBlamed, Fits, Gone, Held, In, IntendsDeletion, IntendsIn, IsAtEnd, IsBlamed, IsBlamedFor, IsBooked, IsGoingBack, IsMove, IsOfLane, IsOnCourse, IsOpen, IsTo, IsToRestore, MatchBool, MayDelete, MayFollow, MayStep, Pending, Phase, Reply, Request, Response, Schema, StackState, Stage, Status, Why, World, anew, answers_of, begins as is_begun, begun, bytes_eq, call_under as call_of, calls_in_flight, creates_from, current_at, deletes, deletions_of, doubts_of, effect_at, ended_effect, ends as is_end, entries_with, failed_in, failed_of, first_so, flat_map, has_refused_restore, has_restore, here, id_named, is_among, is_at_one, is_bad_at, is_bad_last, is_bad_outcome, is_call, is_cleared, is_create, is_create_at, is_current_at, is_failed_path, is_failed_status, is_free, is_held_at_one, is_in_flight, is_in_progress, is_lane_leased, is_needed_by_create, is_needed_by_held, is_needed_by_made, is_not_needed, is_of, is_physical_of, is_refusal, is_repeated, is_restoring, is_some, is_success, is_to_retain, is_untried, keeps, known_stack, last_at, length, list_any, may_repeat, more as more_same, named_paths, nat_lt, needs_at, opened, option_map_or, option_or, own_calls, own_of, refusals_of, replies_in, resource_at, resources_of, restores_of, reviewed, second_so, settled_by, stage_of, stays as is_still, step as is_step, succeeded, there, turned, turns as is_turn, updates, updates_from, waits_for_repeats, was_refused, was_restored, was_skipped, was_updated, ◌↔◌}
+use Rattle.cf_core.proofs.Cleanups.{at_home, none_calls}
+use Rattle.cf_core.proofs.Words.{Back, BackClean, Call, Course, EndsAs, Entry, FailedAreBlamed, Fits, Gone, Held, In, IntendsDeletion, IntendsIn, IsAtEnd, IsBlamed, IsBlamedFor, IsBooked, IsGoingBack, IsMove, IsOfLane, IsOnCourse, IsOpen, IsTo, IsToRestore, MatchBool, MayDelete, MayFollow, MayStep, Pending, Phase, Request, Response, Schema, StackState, Stage, Status, Why, World, anew, answers_of, begins as is_begun, begun, bytes_eq, call_under as call_of, current_at, deletes, deletions_of, doubts_of, effect_at, ended_effect, ends as is_end, entries_with, failed_in, failed_of, first_so, flat_map, has_refused_restore, has_restore, here, id_named, is_among, is_at_one, is_bad_at, is_bad_last, is_call, is_cleared, is_create, is_create_at, is_current_at, is_failed_path, is_failed_status, is_free, is_held_at_one, is_in_flight, is_in_progress, is_needed_by_create, is_needed_by_held, is_needed_by_made, is_not_needed, is_of, is_physical_of, is_refusal, is_repeated, is_restoring, is_success, is_to_retain, is_untried, keeps, known_stack, last_at, length, list_any, may_repeat, named_paths, nat_lt, needs_at, opened, option_map_or, option_or, own_calls, refusals_of, replies_in, resource_at, resources_of, restores_of, settled_by, stage_of, stays as is_still, step as is_step, succeeded, turned, turns as is_turn, updates, waits_for_repeats, was_refused, was_restored, was_skipped, was_updated, ◌↔◌}
 use Rattle.cf_core.proofs.Lemmas.{and_from, any_of, append-nil, bytes_eq-Decides, differ_one, eq-eqb, eqb-true, found_one, greatest, in_back, in_filter, in_front, in_reversed, is_found_in, nat_tests, none_any, none_below, none_false, none_of, not_so, one_counted, or_left, or_right, or_true, refusal_fails, second_not, some_counted, some_is, some_of}
-use Rattle.cf_core.proofs.{Rows.anew_same, Rows.call_mapped, Stacks.on_option, Stacks.on_bool, Stacks.on_list, Moving.written_moves, Moving.written_is_to, Statuses.begun_status, Statuses.ended_status, Statuses.turned_status, Statuses.turned_goes, Statuses.begun_goes, RowsBooked.success_refuses, RowsBooked.rose, BlameStays.Leaves, BlameStays.answers_then, BlameStays.failed_then, BlameStays.own_opened, BlameStays.row_is, BlameStays.one_resource, BlameStays.held_or_made, BlameStays.plan_rank, BlameStays.needs_lower, BlameStays.done_left, BlameStays.GoesOn, BlameStays.goes_on}
+use Rattle.cf_core.proofs.{BackSteps.is_of as now_held, Rows.anew_same, Rows.call_mapped, Stacks.on_option, Stacks.on_bool, Stacks.on_list, Moving.written_moves, Moving.written_is_to, Statuses.begun_status, Statuses.ended_status, Statuses.turned_status, Statuses.turned_goes, Statuses.begun_goes, RowsBooked.success_refuses, RowsBooked.rose, BlameStays.Leaves, BlameStays.answers_then, BlameStays.failed_then, BlameStays.own_opened, BlameStays.row_is, BlameStays.one_resource, BlameStays.held_or_made, BlameStays.plan_rank, BlameStays.needs_lower, BlameStays.done_left, BlameStays.GoesOn, BlameStays.goes_on}
 use Rattle.cf_core.specs.{Moving.begins as is_beginning, Moving.reviewed as is_review, Moving.other as is_elsewhere, Written.reviewed as is_reviewed, Written.other as is_other}
 use Rattle.cf_effect.specs.declared.call.Settled.{Settled}
 use Rattle.cf_entry.specs.Entry.{texts_ascend}
 
 -- Where an operation fails, each failed path is blamed, and a path is failed.
 
-above_none : (n : ℕ) → nat_lt n 3 ≡ false → 0 < n
-above_none n e = grind (arith, nat_tests)
-
 is_above : (n : ℕ) → 0 < n → nat_lt 0 n ≡ true
 is_above n l = grind (arith, nat_tests)
-
-above_is : (n : ℕ) → nat_lt 0 n ≡ true → 0 < n
-above_is n e = grind (arith, nat_tests)
-
-not_none : (n : ℕ) → (n == 0) ≡ false → 0 < n
-not_none n e = grind (arith, nat_tests)
-
-bad_fails : (c : Call) (a : Reply) → is_bad_outcome (Some c) a ≡ true → is_success (settled_by a) ≡ false
-bad_fails c a e = let k = refusal_fails c.request a in grind arith
 
 not_both : (q : Request) (a : Option Settled) → is_refusal q a ≡ true → is_success a ≡ true → ⊥
 not_both q a r e = let k = success_refuses q in grind arith
@@ -31,17 +19,7 @@ not_both q a r e = let k = success_refuses q in grind arith
 is_so : (b : Bool) → not b ≡ false → b ≡ true
 is_so b e = grind arith
 
--- what is held is what was held before, one by one
-in_same : (bs hs : List Held) → AreSameThings bs hs → (b : Held) → In b bs → (g : Held) × In g hs × (g.physical ≡ b.physical)
-in_same [] hs same b i = elim i [ ]
-in_same (c ∷ bs) [] same b i = elim same [ ]
-in_same (c ∷ bs) (g ∷ hs) (more_same same rest) b here = (g, here, same.physical)
-in_same (c ∷ bs) (g ∷ hs) (more_same same rest) b (there i) = let k = in_same bs hs rest b i in (k.0, there k.1, k.2)
-
 module _ (x : World) (s : StackState) (fits : Fits x s) (h : IsBooked s) where
-  bad_last_is : (path : List ℕ) → is_bad_last s (last_at path s) ≡ is_bad_at path s.ledger (answers_of s)
-  bad_last_is path = grind arith
-
   -- a row is found by its token
   found_row : (token : ℕ) (c : Call) → In c s.ledger → token ≡ c.token → call_of token s ≡ Some c
   found_row token c i e =
@@ -62,9 +40,6 @@ module _ (x : World) (s : StackState) (fits : Fits x s) (h : IsBooked s) where
         → is_success (settled_by r.answer) ≡ false → IsBlamedFor t path
     blamed_by path r c i d p f = grind (arith, rose)
 
-    blamed_last : (path : List ℕ) (o : Option Response) → last_at path s ≡ o → is_bad_last s o ≡ true → IsBlamedFor t path
-    blamed_last path o d b = grind (arith, found_one, in_reversed, bytes_eq-Decides, bad_fails)
-
     blamed_resource : (path : List ℕ) (r : Held) → In r (resources_of s) → path ≡ r.path → 0 < refusals_of r.physical s → IsBlamedFor t path
     blamed_resource path r i d l =
         let c = one_counted was_refused (deletions_of r.physical s) l in
@@ -74,17 +49,17 @@ module _ (x : World) (s : StackState) (fits : Fits x s) (h : IsBooked s) where
 
     pub blamed_path : (path : List ℕ) → is_failed_path s path ≡ true → IsBlamedFor t path
     blamed_path path f = elim (or_true (is_bad_last s (last_at path s)) _ f) [
-      | inl b ↦ blamed_last path (last_at path s) refl b
+      | inl b ↦ (grind (arith, found_one, in_reversed, bytes_eq-Decides, refusal_fails))
       | inr b ↦ (let p = some_of (λ r. bytes_eq path r.path && nat_lt 0 (refusals_of r.physical s)) (resources_of s) b in
           blamed_resource path p.one p.of_list ((bytes_eq-Decides path (p.one).path).0 (first_so (bytes_eq path (p.one).path) _ p.passes))
-          (above_is (refusals_of (p.one).physical s) (second_so (bytes_eq path (p.one).path) _ p.passes)))
+          (grind (arith, nat_tests)))
     ]
 
   abbrev pub Fails : Type 0
   Fails = (path : List ℕ) × (is_failed_path s path ≡ true)
 
   last_fails : (path : List ℕ) → is_bad_at path s.ledger (answers_of s) ≡ true → Fails
-  last_fails path b = (path, or_left (is_bad_last s (last_at path s)) _ (bad_last_is path ∙ b))
+  last_fails path b = (path, or_left (is_bad_last s (last_at path s)) _ ((grind arith) ∙ b))
 
   -- an open call in doubt
   open_fails : (p : Pending) → In p s.tokens → 0 < doubts_of p.token s → Fails
@@ -100,7 +75,7 @@ module _ (x : World) (s : StackState) (fits : Fits x s) (h : IsBooked s) where
     r.path,
     or_right (is_bad_last s (last_at r.path s)) _ (any_of (λ z. bytes_eq r.path z.path && nat_lt 0 (refusals_of z.physical s)) (resources_of s) r i
         (and_from (bytes_eq r.path r.path) (nat_lt 0 (refusals_of r.physical s)) ((bytes_eq-Decides r.path r.path).1 refl)
-        (is_above (refusals_of r.physical s) (counted (deletions_of r.physical s) refl (not_none (length (deletions_of r.physical s)) e))))),
+        (is_above (refusals_of r.physical s) (counted (deletions_of r.physical s) refl (grind (arith, nat_tests)))))),
   ) where
     counted : (cs : List Call) → deletions_of r.physical s ≡ cs → 0 < length cs → 0 < refusals_of r.physical s
     counted [] d l = absurd (none_below l)
@@ -138,10 +113,7 @@ module _ (x : World) (s : StackState) (fits : Fits x s) (h : IsBooked s) where
         by : (a : Held) (q : List ℕ) → In a s.held → a.superseded ≡ false → In q a.needs → (o : Option Held) → current_at q s.held ≡ o
             → is_physical_of r.physical o ≡ true → ⊥
         by a q i c j None e f = true≢false (sym f)
-        by a q i c j (Some z) e f =
-            let one = found_one (is_current_at q) s.held z e in
-            never a z q i c j one.0 ((bytes_eq-Decides q z.path).0 (first_so (bytes_eq q z.path) _ one.1)) (not_so _ (second_so (bytes_eq q z.path) _ one.1))
-            ((bytes_eq-Decides r.physical z.physical).0 f)
+        by a q i c j (Some z) e f = let one = found_one (is_current_at q) s.held z e in grind (arith, bytes_eq-Decides, not_so)
 
   made_unneeded : (r : Held) → In r s.made → is_needed_by_held s r ≡ false
   made_unneeded r i = none_needs r (λ a z q ia c j iz p cz e. held_or_made x s fits z r iz i (sym e))
@@ -180,16 +152,13 @@ module _ (x : World) (s : StackState) (fits : Fits x s) (h : IsBooked s) where
         → (list_any is_repeated (filter (λ c. is_in_flight [] c.token) s.ledger) || list_any waiting s.tokens) ≡ false
     none_waits waiting never = ap (λ cs. list_any is_repeated cs || list_any waiting s.tokens) (none_calls s) ∙ none_any waiting s.tokens never
 
-    cleared_by : s.held ≡ [] → s.made ≡ [] → s.tokens ≡ [] → is_cleared s ≡ true
-    cleared_by unheld unmade closed = cc
-
     not_needed : (r : Held) → is_needed_by_made s r ≡ false → is_needed_by_create s r ≡ false → is_not_needed s r ≡ true
     not_needed r made create = cc
 
     -- The rollback of a creation, and of an update.
     module _ (at_end : IsAtEnd schemas name x s Back) where
       back_doubted : (p : Pending) → In p s.tokens → Fails
-      back_doubted p i = open_fails p i (above_none (doubts_of p.token s) (none_false (nat_lt (doubts_of p.token s) 3) (λ e. at_end.1 p (i, e))))
+      back_doubted p i = open_fails p i (grind (arith, nat_tests))
 
       all_free : s.tokens ≡ [] → (path : List ℕ) → is_free path s ≡ true
       all_free d path = ap (λ ts. not (list_any (λ p. bytes_eq path p.path) ts)) d
@@ -209,7 +178,7 @@ module _ (x : World) (s : StackState) (fits : Fits x s) (h : IsBooked s) where
 
       pub rollback_fails : s.status ≡ Status.RollbackInProgress → s.held ≡ [] → is_cleared s ≡ false → Fails
       rollback_fails back unheld left = on_list s.tokens
-          (λ d. on_list s.made (λ e. absurd (true≢false (sym (cleared_by unheld e d) ∙ left))) (λ m ms e. made_fails back d m ms e))
+          (λ d. on_list s.made (λ e. absurd (true≢false (sym (cc) ∙ left))) (λ m ms e. made_fails back d m ms e))
           (λ p ps d. back_doubted p (subst (In p) (sym d) here))
 
       module _ (back : s.status ≡ Status.UpdateRollbackInProgress) (going : IsGoingBack s) where
@@ -237,26 +206,25 @@ module _ (x : World) (s : StackState) (fits : Fits x s) (h : IsBooked s) where
         -- what is still to be given back could be, or its path has failed
         restore_fails : s.tokens ≡ [] → (b : Held) → In b s.before → is_to_restore b ≡ true → Fails
         restore_fails d b i e = by (has_restore b.physical s) refl where
-          to : IsToRestore s b
-          to = to_restore b i e
-
           by_over : (c : Call) → In c (restores_of s) → updates b.physical c.request ≡ true → (succeeded c ≡ true) ⊎ Fails → Fails
           by_over c j u k = grind (arith, in_filter, any_of, and_from)
 
           by : (t : Bool) → has_restore b.physical s ≡ t → Fails
-          by true r =
-              let c = some_of (λ z. updates b.physical z.request) (restores_of s) r in
-              by_over c.one c.of_list c.passes (restore_over d c.one c.of_list)
+          by true r = let c = some_of (λ z. updates b.physical z.request) (restores_of s) r in grind (arith, by_over, restore_over)
           by false r =
-              let g = in_same s.before s.held going.held b i in
+              let g = now_held going.held i in
               let l = fits.lanes.0 g.0 (in_front g.0 s.held s.made g.1) in
               absurd (at_end.0 (Entry.Intent s.operation (x.token + 1) l.0.0 b.path (Request.Update b.physical b.props)) (record {
                 next = refl;
                 free = all_free d b.path;
                 home = at_home x l.0.0;
-                fits = (subst (IsOfLane l.0.0) g.2 l.2, any_of (λ m. bytes_eq l.0.0 m.0) x.lanes l.0 l.1 ((bytes_eq-Decides l.0.0 l.0.0).1 refl));
+                fits = (
+                  subst (IsOfLane l.0.0) g.2.physical l.2,
+                  any_of (λ m. bytes_eq l.0.0 m.0) x.lanes l.0 l.1
+                      ((bytes_eq-Decides l.0.0 l.0.0).1 refl),
+                );
                 no_repeat = (none_waits (may_repeat Back [] s) (λ p i e. at_end.1 p (i, e)));
-                chosen = inr (back, b, to, refl, refl, refl, r);
+                chosen = inr (back, b, to_restore b i e, refl, refl, refl, r);
               }))
 
         pub back_fails : Fails
@@ -268,9 +236,6 @@ module _ (x : World) (s : StackState) (fits : Fits x s) (h : IsBooked s) where
 
     -- A deletion.
     module _ (deleted : s.status ≡ Status.DeleteInProgress) (at_end : IsAtEnd schemas name x s Gone) where
-      gone_doubted : (p : Pending) → In p s.tokens → not (is_among p.path (named_paths s)) ≡ true → Fails
-      gone_doubted p i n = grind (arith, open_fails, above_none, none_false, and_from)
-
       module _ (named : (p : Pending) → In p s.tokens → is_among p.path (named_paths s) ≡ true) where
         never_created : (p : Pending) → In p s.tokens → is_create p.request ≡ true → ⊥
         never_created p i c =
@@ -319,7 +284,7 @@ module _ (x : World) (s : StackState) (fits : Fits x s) (h : IsBooked s) where
 
         named_fails : is_cleared s ≡ false → Fails
         named_fails left = on_list s.made (λ e. on_list s.held
-            (λ d. on_list s.tokens (λ f. absurd (true≢false (sym (cleared_by d e f) ∙ left))) (λ p ps f. absurd (nothing_named d e p (subst (In p) (sym f) here))))
+            (λ d. on_list s.tokens (λ f. absurd (true≢false (sym (cc) ∙ left))) (λ p ps f. absurd (nothing_named d e p (subst (In p) (sym f) here))))
             (λ m ms d.
             let g = greatest (λ r. h.ranked.rank r.path) m ms in
             let i : In g.one s.held = subst (In g.one) (sym d) g.of_list in
@@ -333,23 +298,10 @@ module _ (x : World) (s : StackState) (fits : Fits x s) (h : IsBooked s) where
 
       pub delete_fails : is_cleared s ≡ false → Fails
       delete_fails left = let unnamed : Pending → Bool = λ p. not (is_among p.path (named_paths s)) in on_bool (list_any unnamed s.tokens)
-          (λ e. let p = some_of unnamed s.tokens e in gone_doubted p.one p.of_list p.passes)
+          (λ e. let p = some_of unnamed s.tokens e in (grind (arith, open_fails, nat_tests, none_false, and_from)))
           (λ e. named_fails (λ p i. is_so (is_among p.path (named_paths s)) (none_of unnamed s.tokens p e i)) left)
 
 -- From the end of an operation that failed until the next one begins, paths are named, and each is blamed.
-
--- while an operation is in progress, it has not failed yet
-going_unfailed : (st : Status) → is_in_progress st ≡ true → is_failed_status st ≡ true → ⊥
-going_unfailed st g f = grind arith
-
--- no change set is kept of a stack on which an operation failed
-never_reviewed : (st : Status) → IsTrue (creates_from st || updates_from st) → is_failed_status (reviewed st) ≡ true → ⊥
-never_reviewed st m f = grind arith
-
--- what its status promised already
-blamed_before : (schemas : List Schema) (x : World) (name : List ℕ) (s : StackState) → Course schemas name x s
-    → is_failed_status s.status ≡ true → IsBlamed s (failed_of s)
-blamed_before schemas x name s c failed = grind arith
 
 -- an opening leaves it so
 opened_blamed : (s : StackState) (epoch : ℕ) (lanes : List (List ℕ × List ℕ)) (at_place : ℕ) → IsBlamed s (failed_of s)
@@ -358,11 +310,8 @@ opened_blamed s epoch lanes at_place b = record {
   some = λ e. b.some (sym failed_is ∙ e);
   each = λ path i. by path (b.each path (subst (In path) failed_is i));
 } where
-  own_is : filter (is_of s.operation) (entries_with (Entry.Opened epoch lanes) s.entries) ≡ own_of s
-  own_is = own_opened s.operation epoch lanes s.entries
-
   failed_is : flat_map failed_in (filter (is_of s.operation) (entries_with (Entry.Opened epoch lanes) s.entries)) ≡ failed_of s
-  failed_is = ap (flat_map failed_in) own_is
+  failed_is = ap (flat_map failed_in) (own_opened s.operation epoch lanes s.entries)
 
   by : (path : List ℕ) → IsBlamedFor s path → IsBlamedFor (effect_at at_place (Entry.Opened epoch lanes) s).stack path
   by path k = record {
@@ -370,7 +319,7 @@ opened_blamed s epoch lanes at_place b = record {
     call = anew k.call;
     of_call = call_mapped anew anew_same k.reply.token s.ledger ∙ ap (option_map anew) k.of_call;
     at_path = k.at_path;
-    stands = subst (λ es. In k.reply (replies_in es)) (sym own_is) k.stands;
+    stands = subst (λ es. In k.reply (replies_in es)) (sym (own_opened s.operation epoch lanes s.entries)) k.stands;
     failed = k.failed;
     rose = k.rose;
   }
@@ -380,34 +329,21 @@ module _ (schemas : List Schema) (x : World) (out : List ℕ) (name : List ℕ) 
   abbrev at_place : ℕ
   at_place = x.place + 1
 
-  -- the operation has ended
-  ended_ledger : (state : Status) → (ended_effect state s).stack.ledger ≡ s.ledger
-  ended_ledger state = grind arith
-
-  from_unmaking : (st : Status) → EndsAs schemas name x s st Status.RollbackFailed → (st ≡ Status.RollbackInProgress) × (is_cleared s ≡ false)
-  from_unmaking st e = grind arith
-
-  from_update : (st : Status) → EndsAs schemas name x s st Status.UpdateRollbackFailed → st ≡ Status.UpdateRollbackInProgress
-  from_update st e = grind arith
-
-  from_deletion : (st : Status) → EndsAs schemas name x s st Status.DeleteFailed → (st ≡ Status.DeleteInProgress) × (is_cleared s ≡ false)
-  from_deletion st e = grind arith
-
   course_at : (st : Status) → s.status ≡ st → IsOnCourse schemas name x s st
   course_at st g = subst (IsOnCourse schemas name x s) g c.stage
 
   some_fails : (stage : Stage) → stage_of s.status ≡ Some stage → IsAtEnd schemas name x s stage → (state : Status)
       → is_failed_status state ≡ true → EndsAs schemas name x s s.status state → (path : List ℕ) × (is_failed_path s path ≡ true)
   some_fails stage at at_end Status.RollbackFailed f ends =
-      let g = from_unmaking s.status ends in
+      let g : (s.status ≡ Status.RollbackInProgress) × (is_cleared s ≡ false) = grind arith in
       let back : stage ≡ Back = some_is stage Back (sym at ∙ ap stage_of g.0) in
       rollback_fails x s fits c.booked schemas name (subst (IsAtEnd schemas name x s) back at_end) g.0 (course_at Status.RollbackInProgress g.0).none_held g.1
   some_fails stage at at_end Status.UpdateRollbackFailed f ends =
-      let g = from_update s.status ends in
+      let g : s.status ≡ Status.UpdateRollbackInProgress = grind arith in
       let back : stage ≡ Back = some_is stage Back (sym at ∙ ap stage_of g) in
       back_fails x s fits c.booked schemas name (subst (IsAtEnd schemas name x s) back at_end) g (course_at Status.UpdateRollbackInProgress g)
   some_fails stage at at_end Status.DeleteFailed f ends =
-      let g = from_deletion s.status ends in
+      let g : (s.status ≡ Status.DeleteInProgress) × (is_cleared s ≡ false) = grind arith in
       let gone : stage ≡ Gone = some_is stage Gone (sym at ∙ ap stage_of g.0) in
       delete_fails x s fits c.booked schemas name g.0 (subst (IsAtEnd schemas name x s) gone at_end) g.1
   some_fails stage at at_end state f ends = absurd (true≢false (sym f))
@@ -417,49 +353,48 @@ module _ (schemas : List Schema) (x : World) (out : List ℕ) (name : List ℕ) 
 
   done_blamed : (number : ℕ) (state : Status) (failed : List (List ℕ)) → GoesOn schemas x out number (Entry.Done number state failed) name s
       → is_failed_status state ≡ true → Blames (Entry.Done number state failed)
-  done_blamed number state failed g f = subst (λ n. Blames (Entry.Done n state failed)) g.is (record { some = some_named; each = each_blamed }) where
-    left : Leaves s (Entry.Done s.operation state failed) (ended_effect state s).stack
-    left = done_left s c.booked schemas name x failed state g.may.2 (λ e. absurd (true≢false (sym f ∙ ap is_failed_status e))) (λ u. (course_at Status.RollbackInProgress u).none_held)
+  done_blamed number state failed g f = record { some = some_named; each = each_blamed } where
+    done : Entry
+    done = Entry.Done number state failed
 
-    own : is_of s.operation (Entry.Done s.operation state failed) ≡ true
-    own = eq-eqb s.operation s.operation refl
+    then_ : StackState
+    then_ = (effect_at at_place done s).stack
 
-    failed_is : failed_of (effect_at at_place (Entry.Done s.operation state failed) s).stack ≡ failed
-    failed_is =
-        failed_then s c.booked g.going (Entry.Done s.operation state failed) own (λ es. refl) refl (ended_effect state s).stack left
-        (effect_at at_place (Entry.Done s.operation state failed) s).stack.events
+    left : Leaves s done (ended_effect state s).stack
+    left = done_left s c.booked schemas name x number failed state g.may.2 (λ e. absurd (true≢false (sym f ∙ ap is_failed_status e)))
+        (λ u. (course_at Status.RollbackInProgress u).none_held)
 
-    answers_are : answers_of (effect_at at_place (Entry.Done s.operation state failed) s).stack ≡ answers_of s
+    own : is_of s.operation done ≡ true
+    own = eq-eqb s.operation number g.is
+
+    failed_is : failed_of then_ ≡ failed
+    failed_is = failed_then s c.booked g.going done own (λ es. refl) refl (ended_effect state s).stack left then_.events
+
+    answers_are : answers_of then_ ≡ answers_of s
     answers_are =
-        answers_then s c.booked g.going (Entry.Done s.operation state failed) own (λ es. refl) refl (ended_effect state s).stack left
-        (effect_at at_place (Entry.Done s.operation state failed) s).stack.events ∙ append-nil (answers_of s)
+        answers_then s c.booked g.going done own (λ es. refl) refl (ended_effect state s).stack left then_.events ∙ append-nil (answers_of s)
 
     are : (p : List ℕ) → In p failed ↔ IsTrue (is_failed_path s p)
     are = (subst (λ b. MatchBool b (IsTrue (texts_ascend failed) × ((p : List ℕ) → In p failed ↔ IsTrue (is_failed_path s p))) (failed ≡ [])) f g.may.3).1
 
-    some_named : failed_of (effect_at at_place (Entry.Done s.operation state failed) s).stack ≢ []
-    some_named e =
-        let k = some_fails g.stage g.at g.may.1 state f g.may.2 in
-        elim (subst (In k.0) (sym failed_is ∙ e) ((are k.0).1 k.1)) [ ]
+    some_named : failed_of then_ ≢ []
+    some_named e = let k = some_fails g.stage g.at g.may.1 state f g.may.2 in grind (arith, failed_is, are)
 
-    each_blamed : (path : List ℕ) → In path (failed_of (effect_at at_place (Entry.Done s.operation state failed) s).stack)
-        → IsBlamedFor (effect_at at_place (Entry.Done s.operation state failed) s).stack path
-    each_blamed path i =
-        blamed_path x s fits c.booked (effect_at at_place (Entry.Done s.operation state failed) s).stack (ended_ledger state) answers_are path
-        ((are path).0 (subst (In path) failed_is i))
+    each_blamed : (path : List ℕ) → In path (failed_of then_) → IsBlamedFor then_ path
+    each_blamed path i = blamed_path x s fits c.booked then_ (grind arith) answers_are path ((are path).0 (subst (In path) failed_is i))
 
   -- it begins, or enters a later phase
   in_progress : {P : Type 0} (st now : Status) → is_in_progress st ≡ true → now ≡ st → is_failed_status now ≡ true → P
-  in_progress st now g e f = absurd (going_unfailed st g (ap is_failed_status (sym e) ∙ f))
+  in_progress st now g e f = absurd (grind arith)
 
   -- where it stays as it was, the entry is an opening or is of another stack
   stays_blamed : (e : Entry) (t : StackState) → IsTo schemas x out name s e t → is_failed_status s.status ≡ true → is_failed_status t.status ≡ true
       → IsBlamed t (failed_of t)
-  stays_blamed e t (is_step stage at is_own may) was f = absurd (going_unfailed s.status (ap is_some at) was)
+  stays_blamed e t (is_step stage at is_own may) was f = absurd (grind arith)
   stays_blamed e t (is_begun k from by) was f = in_progress (begun k) _ (begun_goes k) (begun_status at_place name (x.operation + 1) k s) f
-  stays_blamed e t (is_reviewed number source rows outputs from) was f = absurd (never_reviewed s.status from f)
-  stays_blamed e t (opened epoch lanes) was f = opened_blamed s epoch lanes at_place (blamed_before schemas x name s c was)
-  stays_blamed e t is_other was f = blamed_before schemas x name s c was
+  stays_blamed e t (is_reviewed number source rows outputs from) was f = absurd (grind arith)
+  stays_blamed e t (opened epoch lanes) was f = opened_blamed s epoch lanes at_place (grind arith)
+  stays_blamed e t is_other was f = grind arith
 
   moved_blamed : (e : Entry) (t : StackState) → IsTo schemas x out name s e t → MayFollow schemas x out e → IsMove schemas x out name s e t
       → is_failed_status t.status ≡ true → IsBlamed t (failed_of t)
@@ -467,8 +402,8 @@ module _ (schemas : List Schema) (x : World) (out : List ℕ) (name : List ℕ) 
   moved_blamed e t to may (is_turn number p why on turn) f = in_progress (turned s.status p) _ (turned_goes s.status p) (turned_status at_place number p s why) f
   moved_blamed e t to may (is_end number state failed stage on at follows) f = grind (arith, done_blamed, goes_on, ended_status)
   moved_blamed e t to may (is_beginning k from by) f = in_progress (begun k) _ (begun_goes k) (begun_status at_place name (x.operation + 1) k s) f
-  moved_blamed e t to may (is_review number source rows outputs from) f = absurd (never_reviewed s.status from f)
-  moved_blamed e t to may is_elsewhere f = blamed_before schemas x name s c f
+  moved_blamed e t to may (is_review number source rows outputs from) f = absurd (grind arith)
+  moved_blamed e t to may is_elsewhere f = grind arith
 
 pub failed_blamed : FailedAreBlamed
 failed_blamed schemas x out e name s t w c f =

@@ -1,8 +1,8 @@
 -- What a stack's entries and its ledger say of each other stays so with each entry that is written.
-use Rattle.std.proofs.Common.{◌≡◌, ℕ, ◌==◌, List, [], ◌∷◌, ◌++◌, Bool, true, false, Option, Some, None, refl, sym, ap, ◌∙◌, find, map, option_map, ◌<◌, ◌⊎◌, inl, inr, not, subst, true≢false, arith, ◌≤◌, filter, ◌+◌, IsTrue, ◌≢◌}
-use Rattle.cf_core.proofs.Words.{AreApart, AreBooked, AreRanked, AreRestoring, AreSingle, Back, BackClean, BecomesBy, Begun, Call, Cause, Clean, Code, Course, Data, EndsAs, Entry, Fits, Forward, Gone, Held, HoldsIfWhole, HoldsWhole, In, IntendsDeletion, IntendsIn, IntendsRestore, IsBooked, IsCounted, IsNew, IsNewTo, IsOnCourse, IsRowOf, MayDelete, MayFollow, MayFollowIn, MayFollowOn, MayIntend, MayKeep, MayTurn, Pending, Phase, Plan, Reply, Request, Right, Schema, Seen, Source, StackState, Stage, Status, StayBooked, Wanted, Why, World, all_of, anew, answered, answers_of, at_opening, bytes_eq, call_under as call_of, calls_kept, changing, closing, cond, continues, current_at, deletes, deleting, effect_at, ended_effect, ending, entries_with, failed_in, failed_of, first_so, flat_map, goes_forward, has_physical, has_restore, has_token, here, id_named, intending, is_among, is_call, is_create, is_create_at, is_doubt, is_in_progress, is_of, is_on, is_open_call, is_opening, is_refusal, is_restore, is_restoring, is_retained_or_excepted, is_right_at, is_some, is_wanted_at, keeping, keeping_known, keeping_unknown, keeps, known_stack, list_any, made_of, marked, named_paths, needs_at, new_call, no_stack, option_map_or, other as another, own as of_it, own_calls, own_of, pending_of, plan_of, replies_in, reply_in, replying, resources_of, restores_of, reviewed, right_of, seen_in, settled_by, settled_in, skipped_in, stack_for, stack_of_operation, stage_of, status_made, stopping, terms_at, there, turned, turned_effect, turning, unwrap_or, updates, updating, where_physical, whole_in, whole_now, world_after}
-use Rattle.cf_core.proofs.Lemmas.{answered_left, any_of, append-nil, bytes_eq-Decides, differ_apart, differ_one, each_map as each_mapped, eq-eqb, eqb-true, filter-append, filter_map-append, flat_map-append, found_one, in_back, in_either, in_filter, in_front, in_kept, in_more, nat_tests, none_any, none_false, not_so, second_not, some_is, some_of}
-use Rattle.cf_core.proofs.{Rows.answered_row, Rows.answered_row_same, Stacks.is_working, Stacks.on_option, Moving.in_stage, Moving.numbered_so, RowsBooked.IsLike, RowsBooked.IsLeftBy, RowsBooked.booked_begun, RowsBooked.restoring_begun, RowsBooked.booked_anew, RowsBooked.restoring_anew, RowsBooked.booked_fewer, RowsBooked.booked_called, RowsBooked.restoring_called, RowsBooked.booked_answered, RowsBooked.restoring_answered}
+use Rattle.std.proofs.Common.{◌≡◌, ℕ, ◌==◌, List, [], ◌∷◌, ◌++◌, Bool, true, false, Option, Some, None, refl, sym, ap, ◌∙◌, find, map, option_map, ◌<◌, ◌⊎◌, inl, inr, not, subst, true≢false, arith, ◌≤◌, filter, ◌+◌, IsTrue}
+use Rattle.cf_core.proofs.Words.{AreApart, AreBooked, AreRanked, AreRestoring, AreSingle, Back, BackClean, BecomesBy, Begun, Call, Cause, Clean, Code, Course, Data, EndsAs, Entry, Fits, Forward, Held, HoldsIfWhole, HoldsWhole, In, IntendsDeletion, IntendsRestore, IsBooked, IsCounted, IsNew, IsOnCourse, IsRowOf, MayDelete, MayFollow, MayFollowIn, MayFollowOn, MayIntend, MayKeep, MayTurn, Pending, Phase, Reply, Request, Right, Schema, Seen, Source, StackState, Stage, Status, StayBooked, Wanted, Why, World, all_of, anew, answered, answers_of, at_opening, bytes_eq, calls_kept, changing, closing, cond, continues, current_at, deletes, deleting, effect_at, ended_effect, ending, entries_with, failed_in, failed_of, flat_map, goes_forward, has_physical, has_restore, has_token, here, id_named, intending, is_among, is_call, is_create, is_create_at, is_doubt, is_in_progress, is_of, is_on, is_open_call, is_opening, is_refusal, is_restore, is_restoring, is_right_at, is_some, is_wanted_at, keeping, keeping_known, keeping_unknown, keeps, known_stack, list_any, made_of, marked, named_paths, needs_at, new_call, no_stack, option_map_or, other as another, own as of_it, own_calls, own_of, pending_of, plan_of, replies_in, reply_in, replying, resources_of, restores_of, reviewed, right_of, seen_in, settled_by, settled_in, skipped_in, stack_for, stack_of_operation, stage_of, status_made, stopping, terms_at, there, turned, turned_effect, turning, unwrap_or, updates, whole_now, world_after}
+use Rattle.cf_core.proofs.Lemmas.{answered_left, any_of, append-nil, append_assoc, bytes_eq-Decides, differ_apart, differ_one, each_map as each_mapped, eq-eqb, eqb-true, filter-append, filter_map-append, flat_map-append, found_one, in_back, in_either, in_filter, in_front, in_kept, in_more, nat_tests, none_any, none_false, not_so, second_not, some_is, some_of}
+use Rattle.cf_core.proofs.{Cleanups.from_changed, Rows.answered_row, Rows.answered_row_same, Stacks.is_working, Stacks.on_option, Moving.in_stage, Moving.numbered_so, RowsBooked.IsLike, RowsBooked.IsLeftBy, RowsBooked.booked_begun, RowsBooked.restoring_begun, RowsBooked.booked_anew, RowsBooked.restoring_anew, RowsBooked.booked_fewer, RowsBooked.booked_called, RowsBooked.restoring_called, RowsBooked.booked_answered, RowsBooked.restoring_answered}
 use Rattle.cf_desired.specs.Whole.{Whole}
 use Rattle.cf_core.specs.Books.{row_in}
 use Rattle.cf_effect.specs.Operation.{named_in}
@@ -10,10 +10,6 @@ use Rattle.cf_plan.proofs.BlameOrder.{needed_before, place_of}
 use Rattle.cf_effect.specs.declared.held.KeptSet.{KeptSet}
 
 -- What a stack's own entries tell by one more of them, and when what they and its ledger say of each other stays so.
-
--- an entry is of one operation
-pub one_number : (e : Entry) (a b : ℕ) → is_of a e ≡ true → is_of b e ≡ true → a ≡ b
-one_number e a b d f = grind (arith, nat_tests)
 
 -- what is told of an operation by one entry more
 module _ (n : ℕ) (es : List Entry) (e : Entry) (own : is_of n e ≡ true) where
@@ -69,7 +65,7 @@ module _ (s : StackState) (h : IsBooked s) (going : is_in_progress s.status ≡ 
   booked_then = record {
     books = rw (answers_then, left.operation) left.books;
     numbered = λ d n i. in_more (λ x. is_of n x ≡ true → n ≤ u.operation) e s.entries (λ x j o. rw left.operation (h.numbered x n j o))
-        (λ o. let is : u.operation ≡ s.operation = left.operation in let same : n ≡ s.operation = one_number e n s.operation o own in omega (arith, is, same))
+        (λ o. let is : u.operation ≡ s.operation = left.operation in let same : n ≡ s.operation = grind (arith, nat_tests) in omega (arith, is, same))
         d (subst (In d) entries_are i);
     none_failed = λ g. failed_then ∙ left.goes g;
     unretained = λ g c id i n d. ap (is_among c.path) named_then ∙ left.unretained g c id i (n ∙ left.operation) d;
@@ -120,35 +116,21 @@ record IsChosen (s : StackState) (path : List ℕ) (r : Request) : Type 0 where
       → (b : Held) × In b s.before × (b.path ≡ path) × (updates b.physical r ≡ true) × (has_restore b.physical s ≡ false)
 
 module _ (schemas : List Schema) (name : List ℕ) (x : World) (s : StackState) (fits : Fits x s) where
-  -- a call that deletes nothing, where no update is rolled back
-  no_deletion : (stage : Stage) (path : List ℕ) (r : Request) → stage_of s.status ≡ Some stage → (stage ≡ Back → ⊥) → ((id : List ℕ) → deletes id r ≡ false)
-      → IsChosen s path r
-  no_deletion stage path r at other none = grind (arith, some_is)
-
   deletion : (stage : Stage) (path physical : List ℕ) → stage_of s.status ≡ Some stage → IntendsDeletion stage s path (Request.Delete physical)
       → IsChosen s path (Request.Delete physical)
   deletion stage path physical at (r, may, kept, p, i) = record {
     named = λ h j d.
         p ∙ ap (λ z. z.path) (sym (one_resource x s fits h r j (deleted_listed stage s r may) ((bytes_eq-Decides h.physical physical).0 d ∙ i)));
-    unretained = λ g id d.
-        let gone : stage ≡ Gone = some_is stage Gone (sym at ∙ ap stage_of g) in
-        ap (λ q. is_among q (named_paths s)) p
-        ∙ second_not (is_retained_or_excepted r.deletion) (is_among r.path (named_paths s)) (subst (λ st. keeps st s r ≡ false) gone kept);
-    restores = λ g.
-        let creates : s.status ≡ Status.RollbackInProgress = (subst (λ st. MayDelete st s r) (some_is stage Back (sym at ∙ ap stage_of g)) may).0 in
-        absurd (cc);
+    unretained = grind (arith, some_is, second_not, kept);
+    restores = grind (arith, some_is);
   }
 
   deleting_chosen : (stage : Stage) (path : List ℕ) (r : Request) → stage_of s.status ≡ Some stage → IntendsDeletion stage s path r → IsChosen s path r
-  deleting_chosen stage path (Request.Create k props) at d = absurd d
-  deleting_chosen stage path (Request.Update id props) at d = absurd d
   deleting_chosen stage path (Request.Delete id) at d = deletion stage path id at d
+  deleting_chosen stage path v2 at d = grind arith
 
   restoring : (path : List ℕ) (r : Request) → IntendsRestore s path r → IsChosen s path r
   restoring path r d = grind (arith, bytes_eq-Decides)
-
-  chosen : (stage : Stage) (path : List ℕ) (r : Request) → stage_of s.status ≡ Some stage → IntendsIn stage schemas name x s path r → IsChosen s path r
-  chosen stage path r at c = grind (arith, no_deletion, deleting_chosen, restoring)
 
   module _ (out : List ℕ) (h : IsBooked s) (stage : Stage) (at : stage_of s.status ≡ Some stage) (token : ℕ) (lane path : List ℕ) (r : Request)
       (may : MayIntend schemas name x out s stage token lane path r) (single : s.status ≡ Status.UpdateRollbackInProgress → AreSingle s.before) where
@@ -162,14 +144,10 @@ module _ (schemas : List Schema) (name : List ℕ) (x : World) (s : StackState) 
     intent = Entry.Intent s.operation token lane path r
 
     choice : IsChosen s path r
-    choice = chosen stage path r at may.chosen
-
-    -- no call has the token yet
-    unwritten : (t : ℕ) (c : Call) → call_of t s ≡ Some c → t ≡ token → ⊥
-    unwritten t c e same = grind (arith, found_one, eqb-true)
+    choice = grind (arith, deleting_chosen, restoring, some_is)
 
     not_open : list_any (has_token token) s.tokens ≡ false
-    not_open = grind (arith, none_any, unwritten, eqb-true)
+    not_open = grind (arith, none_any, eqb-true, found_one)
 
     apart : (g : s.status ≡ Status.UpdateRollbackInProgress) (c : Call) → In c s.ledger → c.number ≡ s.operation → is_restoring c ≡ true → path ≡ c.path → ⊥
     apart g c i n e p =
@@ -188,7 +166,7 @@ module _ (schemas : List Schema) (name : List ℕ) (x : World) (s : StackState) 
       entries = refl;
       goes = λ g. refl;
       books = rw (append-nil (answers_of s)) (booked_called s.operation s.ledger (answers_of s) s.tokens s.status q (resources_of s) h.books
-          (λ z i e. let k = h.books.called z i in unwritten z.token k.0 k.1 e) choice.named);
+          (λ z i e. let k = h.books.called z i in (grind (arith, found_one, eqb-true))) choice.named);
       unretained = λ g c id i n d.
           in_more (λ z. z.number ≡ s.operation → deletes id z.request ≡ true → is_among z.path (named_paths s) ≡ false) (new_call s.operation s.status q) s.ledger
           (λ z j m f. h.unretained g z id j m f) (λ m f. choice.unretained g id f) c i n d;
@@ -200,15 +178,15 @@ module _ (schemas : List Schema) (name : List ℕ) (x : World) (s : StackState) 
       ranked = h.ranked;
     }
 
-    pub intent_left : Leaves s intent (intending s.operation q s)
-    intent_left = subst (Leaves s intent) (sym (ap (λ b. cond b s called) not_open)) left
+    pub intent_left : (number : ℕ) → s.operation ≡ number → Leaves s (Entry.Intent number token lane path r) (intending number q s)
+    intent_left number is =
+        subst (λ n. Leaves s (Entry.Intent n token lane path r) (intending n q s)) is
+        (subst (Leaves s intent) (sym (ap (λ b. cond b s called) not_open)) left)
 
 -- A plan ranks what is made by it, and the whole map of a template what is held as it wants it.
 
 pub among_in : (q : List ℕ) (ps : List (List ℕ)) → is_among q ps ≡ true → In q ps
-among_in q ps e =
-    let p = some_of (bytes_eq q) ps e in
-    subst (λ z. In z ps) (sym ((bytes_eq-Decides q p.one).0 p.passes)) p.of_list
+among_in q ps e = let p = some_of (bytes_eq q) ps e in grind (arith, bytes_eq-Decides)
 
 abbrev pub wanted_by : Option Source → Seen → List Wanted
 wanted_by None seen = []
@@ -221,17 +199,10 @@ plan_rank s path = place_of path (wanted_by s.going (seen_in s.before))
 pub needs_lower : (s : StackState) (m q : List ℕ) → In q (needs_at m s) → plan_rank s q < plan_rank s m
 needs_lower s m q i = grind (arith, place_of, needed_before)
 
--- what the whole map wants is what the plan wants
-right_as : (v : Wanted) (r : Right) → right_of v ≡ Some r → (r.path ≡ v.path) × (r.needs ≡ v.needs)
-right_as v r e = grind arith
-
 right_wanted : (path : List ℕ) (ws : List Wanted) (rs : List Right) → all_of right_of ws ≡ Some rs
     → option_map (λ (w : Right). w.needs) (find (is_right_at path) rs) ≡ option_map (λ (v : Wanted). v.needs) (find (is_wanted_at path) ws)
 right_wanted path [] rs e = cc
-right_wanted path (v ∷ vs) rs e = grind (arith, right_wanted path vs, right_as)
-
-whole_wanted : (p : Plan) (whole : Whole) → whole_in p ≡ Some whole → all_of right_of p.wanted ≡ Some whole.wanted
-whole_wanted p whole e = grind arith
+right_wanted path (v ∷ vs) rs e = grind (arith, right_wanted path vs)
 
 wanted_as : (o : Option Wanted) (w : Right) → option_map (λ (v : Wanted). v.needs) o ≡ Some w.needs → (v : Wanted) × (o ≡ Some v) × (w.needs ≡ v.needs)
 wanted_as o w e = grind arith
@@ -241,7 +212,7 @@ whole_ranked name x s h = record {
   rank = λ path. place_of path (plan_of h.source h.seen).wanted;
   lower = λ a g i j c d n.
       let w = h.held a i c in
-      let same = right_wanted a.path (plan_of h.source h.seen).wanted h.whole.wanted (whole_wanted (plan_of h.source h.seen) h.whole h.evaluated) in
+      let same = right_wanted a.path (plan_of h.source h.seen).wanted h.whole.wanted (grind arith) in
       let v = wanted_as (find (is_wanted_at a.path) (plan_of h.source h.seen).wanted) w.0 (sym same ∙ ap (option_map (λ (w : Right). w.needs)) w.1) in
       needed_before h.source h.seen a.path g.path v.0 v.1 (among_in g.path v.0.needs (ap (is_among g.path) (sym (w.2.needs ∙ v.2)) ∙ n));
 }
@@ -264,13 +235,6 @@ like_of k = record { one = k.one; of_list = k.of_list; path = k.path; physical =
 pub alike_itself : (hs : List Held) (h : Held) → In h hs → IsAlike hs h
 alike_itself hs h i = record { one = h; of_list = i; path = refl; physical = refl; needs = refl; current = λ e. e }
 
-further : (g : Held) (hs : List Held) (h : Held) → IsAlike hs h → IsAlike (g ∷ hs) h
-further g hs h k = record { one = k.one; of_list = there k.of_list; path = k.path; physical = k.physical; needs = k.needs; current = k.current }
-
--- among all resources of a stack
-pub like_all : (s : StackState) {h : Held} → IsLike s.held h ⊎ IsLike s.made h → IsLike (resources_of s) h
-like_all s k = grind (arith, in_front, in_back)
-
 -- what each keeps of this, a list keeps
 pub record KeepsThing (f : Held → Held) : Type 0 where
   pub path : (h : Held) → (f h).path ≡ h.path
@@ -290,31 +254,19 @@ kept_alike test hs h i = alike_itself hs h ((in_filter test hs h i).0)
 pub ranked_alike : (hs hs' : List Held) → AreRanked hs → ((h : Held) → In h hs' → IsAlike hs h) → AreRanked hs'
 ranked_alike hs hs' r alike = grind arith
 
-module _ (id : List ℕ) (f : Held → Held) (keeps : KeepsThing f) where
-  where_alike : (hs : List Held) (h : Held) → In h (where_physical id f hs) → IsAlike hs h
-  where_alike [] h i = elim i [ ]
-  where_alike (g ∷ hs) h i = by_test (has_physical id g) h i (where_alike hs h) where
-    by_test : (b : Bool) (h : Held) → In h (cond b (f g ∷ hs) (g ∷ where_physical id f hs)) → (In h (where_physical id f hs) → IsAlike hs h) → IsAlike (g ∷ hs) h
-    by_test true h here ih = changed_alike f keeps (g ∷ hs) g here
-    by_test true h (there j) ih = alike_itself (g ∷ hs) h (there j)
-    by_test false h here ih = alike_itself (g ∷ hs) h here
-    by_test false h (there j) ih = further g hs h (ih j)
-
 -- each resource was there
 pub record HasFewer (s t : StackState) : Type 0 where
   pub held : (h : Held) → In h t.held → IsAlike s.held h
   pub made : (h : Held) → In h t.made → IsAlike s.made h
 
 pub fewer_all : (s t : StackState) → HasFewer s t → (h : Held) → In h (resources_of t) → IsLike (resources_of s) h
-fewer_all s t k h i = grind (arith, in_either, like_all, like_of)
+fewer_all s t k h i = grind (arith, in_either, like_of, in_front, in_back)
 
 pub fewer_itself : (s : StackState) → HasFewer s s
 fewer_itself s = record { held = alike_itself s.held; made = alike_itself s.made }
 
 pub changing_fewer : (id : List ℕ) (f : Held → Held) → KeepsThing f → (s : StackState) → HasFewer s (changing id f s)
-changing_fewer id f keeps s = by_test (list_any (has_physical id) s.held) where
-  by_test : (b : Bool) → HasFewer s (cond b (record s { held = where_physical id f s.held }) (record s { made = where_physical id f s.made }))
-  by_test b = grind (arith, where_alike, alike_itself)
+changing_fewer id f keeps s = (grind (arith, alike_itself, from_changed, changed_alike))
 
 pub deleting_fewer : (id : List ℕ) (s : StackState) → HasFewer s (deleting id s)
 deleting_fewer id s = record { held = kept_alike (λ h. not (has_physical id h)) s.held; made = kept_alike (λ h. not (has_physical id h)) s.made }
@@ -332,24 +284,18 @@ pub data Answers (path : List ℕ) (q : Request) (a : Reply) (s t : StackState) 
   more : (h : Held) → t.held ≡ s.held → t.made ≡ s.made ++ h ∷ [] → h.path ≡ path → h.needs ≡ needs_at path s → is_create q ≡ true
       → (attrs : List (List ℕ × Data)) → a ≡ Reply.Success h.physical attrs → Answers path q a s t
 
-status_keeps : (state : _) → KeepsThing (λ h. record h { status = state })
-status_keeps state = record { path = λ h. refl; physical = λ h. refl; needs = λ h. refl; superseded = λ h. refl }
-
-update_keeps : (props attrs : List (List ℕ × Data)) → KeepsThing (updating props attrs)
-update_keeps props attrs = record { path = λ h. refl; physical = λ h. refl; needs = λ h. refl; superseded = λ h. refl }
-
 pub answers : (b : Bool) (path : List ℕ) (q : Request) (a : Reply) (s : StackState) → Answers path q a s (answered b path q a s)
 answers b path (Request.Create k props) (Reply.Success physical attrs) s =
     more (made_of (terms_at path s) (status_made (current_at path s.held)) path k props physical attrs) refl refl refl refl refl attrs refl
 answers b path (Request.Create k props) (Reply.Failed c) s = fewer (fewer_itself s) (λ h i d. absurd (true≢false (sym d)))
 answers b path (Request.Create k props) Reply.Doubt s = fewer (fewer_itself s) (λ h i d. inl refl)
-answers b path (Request.Update id props) (Reply.Success physical attrs) s = grind (arith, changing_fewer, update_keeps)
-answers true path (Request.Update id props) (Reply.Failed c) s = grind (arith, changing_fewer, status_keeps)
+answers b path (Request.Update id props) (Reply.Success physical attrs) s = grind (arith, changing_fewer)
+answers true path (Request.Update id props) (Reply.Failed c) s = grind (arith, changing_fewer)
 answers false path (Request.Update id props) (Reply.Failed c) s = fewer (fewer_itself s) (λ h i d. inr refl)
 answers b path (Request.Update id props) Reply.Doubt s = fewer (fewer_itself s) (λ h i d. inl refl)
 answers b path (Request.Delete id) (Reply.Success physical attrs) s = grind (arith, deleting_fewer, deleted_gone, bytes_eq-Decides)
 answers b path (Request.Delete id) (Reply.Failed Code.NotFound) s = grind (arith, deleting_fewer, deleted_gone, bytes_eq-Decides)
-answers b path (Request.Delete id) (Reply.Failed c) s = grind (arith, changing_fewer, status_keeps)
+answers b path (Request.Delete id) (Reply.Failed c) s = grind (arith, changing_fewer)
 answers b path (Request.Delete id) Reply.Doubt s = fewer (fewer_itself s) (λ h i d. inl refl)
 
 -- A call is answered, or a resource is kept, and what a stack's entries and its ledger say of each other stays so.
@@ -358,28 +304,17 @@ answers b path (Request.Delete id) Reply.Doubt s = fewer (fewer_itself s) (λ h 
 pub needs_alike : (s : StackState) → ((r : Held) → In r s.made → r.needs ≡ needs_at r.path s) → (r : Held) → IsAlike s.made r → r.needs ≡ needs_at r.path s
 needs_alike s needs r k = sym k.needs ∙ needs k.one k.of_list ∙ ap (λ p. needs_at p s) k.path
 
-delete_names : (id : List ℕ) (q : Request) → deletes id q ≡ true → id_named q ≡ Some id
-delete_names id q d = grind (arith, bytes_eq-Decides)
-
-create_names_none : (q : Request) → is_create q ≡ true → id_named q ≡ None
-create_names_none q e = grind arith
-
-create_deletes : (id : List ℕ) (q : Request) → is_create q ≡ true → deletes id q ≡ true → ⊥
-create_deletes id q c d = grind arith
-
-module _ (name : List ℕ) (x : World) (s : StackState) (fits : Fits x s) (h : IsBooked s) (on : stack_of_operation s.operation x ≡ Some (name, s)) where
+module _ (name : List ℕ) (x : World) (s : StackState) (fits : Fits x s) (h : IsBooked s) (number : ℕ)
+    (on : stack_of_operation number x ≡ Some (name, s)) where
   -- an answer
   module _ (token : ℕ) (a : Reply) (before after : ℕ) (still : IsTrue (is_some (pending_of token s))) (counted : IsCounted a before after)
-      (new : IsNew x (Entry.Outcome s.operation token a before after)) where
+      (new : IsNew x (Entry.Outcome number token a before after)) where
     abbrev outcome : Entry
-    outcome = Entry.Outcome s.operation token a before after
+    outcome = Entry.Outcome number token a before after
 
     module _ (p : Pending) (found : pending_of token s ≡ Some p) where
       abbrev then_ : StackState
       then_ = answered (is_restore token s) p.path p.request a s
-
-      abbrev closed_then : StackState
-      closed_then = closing token a (record s { held = then_.held; made = then_.made })
 
       of_list : In p s.tokens
       of_list = (found_one (has_token token) s.tokens p found).0
@@ -390,32 +325,21 @@ module _ (name : List ℕ) (x : World) (s : StackState) (fits : Fits x s) (h : I
       made_by : Answers p.path p.request a s then_
       made_by = answers (is_restore token s) p.path p.request a s
 
-      new_to : (id : List ℕ) (attrs : List (List ℕ × Data)) (b : Reply) → b ≡ Reply.Success id attrs → is_create p.request ≡ true
-          → IsNew x (Entry.Outcome s.operation token b before after) → IsNewTo s id
-      new_to id attrs (Reply.Failed c) e create n = absurd (cc)
-      new_to id attrs Reply.Doubt e create n = absurd (cc)
-      new_to id attrs (Reply.Success physical got) e create n =
-          let same : physical ≡ id = cc in
-          subst (IsNewTo s) same (n name s p on found (create_names_none p.request create))
-
       abbrev From : Held → Type 0
       From = IsLeftBy (resources_of s) s.ledger p a
 
       from : (r : Held) → In r (then_.held ++ then_.made) → From r
-      from r i = by made_by where
-        at : (g : Held) → then_.made ≡ s.made ++ g ∷ [] → is_create p.request ≡ true → (attrs : List (List ℕ × Data)) → a ≡ Reply.Success g.physical attrs
-            → In r s.held ⊎ In r then_.made → From r
-        at g made create attrs is (inl j) = inl (like_all s (inl (like_of (alike_itself s.held r j))), λ d. absurd (create_deletes r.physical p.request create d))
-        at g made create attrs is (inr j) =
-            in_more From g s.made
-            (λ z l. inl (like_all s (inr (like_of (alike_itself s.made z l))), λ d. absurd (create_deletes z.physical p.request create d)))
-            (inr (λ c l d. (new_to g.physical attrs a is create new).calls c l (delete_names g.physical c.request d)))
-            r (subst (In r) made j)
-
-        by : Answers p.path p.request a s then_ → From r
-        by (fewer k tried) = inl (fewer_all s then_ k r i, tried r i)
-        by (more g held made path needs create attrs is) =
-            at g made create attrs is (elim (in_either r then_.held then_.made i) [ inl j ↦ inl (subst (In r) held j) | inr j ↦ inr j ])
+      from r i = elim made_by [
+        | fewer k tried ↦ inl (fewer_all s then_ k r i, tried r i)
+        | more g held made path needs create attrs is ↦ (
+            let all : then_.held ++ then_.made ≡ resources_of s ++ g ∷ [] = cc (held, made, append_assoc s.held s.made (g ∷ [])) in
+            let none : id_named p.request ≡ None = grind arith in
+            in_more From g (resources_of s)
+            (λ z l. inl (record { one = z; of_list = l; path = refl; physical = refl }, λ d. absurd (grind arith)))
+            (inr (λ c l d. (subst (λ b. IsNew x (Entry.Outcome number token b before after)) is new name s p on found none).calls c l
+            (grind (arith, bytes_eq-Decides)))) r (subst (In r) all i)
+            )
+      ]
 
       needs_then : (r : Held) → In r then_.made → r.needs ≡ needs_at r.path s
       needs_then r i = elim made_by [
@@ -433,7 +357,7 @@ module _ (name : List ℕ) (x : World) (s : StackState) (fits : Fits x s) (h : I
       its : (c : Call) × (row_in token s.ledger ≡ Some c)
       its = let k = fits.rows p of_list in (k.0, ap (λ t. row_in t s.ledger) named ∙ k.1)
 
-      closed_left : Leaves s outcome closed_then
+      closed_left : Leaves s outcome (closing token a (record s { held = then_.held; made = then_.made }))
       closed_left = record {
         operation = refl;
         entries = refl;
@@ -462,11 +386,7 @@ module _ (name : List ℕ) (x : World) (s : StackState) (fits : Fits x s) (h : I
   -- a resource is kept
   module _ (out : List ℕ) (stage : Stage) (at : stage_of s.status ≡ Some stage) (path physical : List ℕ) (w : Why) (may : MayKeep stage out s path physical w) where
     abbrev kept : Entry
-    kept = Entry.Kept s.operation path physical w
-
-    -- in the rollback of an update nothing is kept
-    not_back : (s.status ≡ Status.UpdateRollbackInProgress) → ⊥
-    not_back g = grind (arith, some_is)
+    kept = Entry.Kept number path physical w
 
     keeps_books : (t : StackState) → let u : StackState = record t { operation = s.operation; entries = s.entries; status = s.status; ledger = s.ledger } in
         HasFewer s u → ((r : Held) → In r u.made → r.needs ≡ needs_at r.path s → r.needs ≡ needs_at r.path u) → ((p : Pending) → In p u.tokens → In p s.tokens)
@@ -476,19 +396,18 @@ module _ (name : List ℕ) (x : World) (s : StackState) (fits : Fits x s) (h : I
       operation = refl;
       entries = refl;
       goes = λ g. refl;
-      books = rw (append-nil (answers_of s)) (booked_fewer s.operation s.ledger (answers_of s) s.tokens (resources_of s) h.books t.tokens (resources_of t) less
-          (fewer_all s t (record { held = few.held; made = few.made })) stay);
+      books = search (append-nil, booked_fewer, fewer_all);
       unretained = h.unretained;
-      restoring = λ g. absurd (not_back g);
+      restoring = λ g. absurd (grind (arith, some_is));
       needs = λ r i. needs r i (needs_alike s h.needs r (few.made r i));
       ranked = ranked_alike s.held t.held h.ranked few.held;
     }
 
     no_create : (id : List ℕ) (p : Pending) → deletes id p.request ≡ true → is_create_at path p ≡ false
-    no_create id p d = none_false (is_create_at path p) (λ e. create_deletes id p.request (first_so (is_create p.request) (bytes_eq path p.path) e) d)
+    no_create id p d = none_false (is_create_at path p) (λ e. grind arith)
 
     off_it : (r : Held) (q : Request) → deletes r.physical q ≡ true → (r.physical ≡ physical → ⊥) → option_map_or (bytes_eq physical) (id_named q) false ≡ false
-    off_it r q d n = grind (arith, delete_names, none_false, bytes_eq-Decides)
+    off_it r q d n = grind (arith, none_false, bytes_eq-Decides)
 
     as_asked : (p : Pending) (c : Call) (r : Held) → In p s.tokens → In c s.ledger → p.token ≡ c.token → deletes r.physical c.request ≡ true
         → deletes r.physical p.request ≡ true
@@ -506,34 +425,20 @@ module _ (name : List ℕ) (x : World) (s : StackState) (fits : Fits x s) (h : I
         (λ p i. (in_filter (λ q. not (is_on physical q)) s.tokens p i).0)
         (λ p c r i j e l d. in_kept (λ q. not (is_on physical q)) s.tokens p i (ap not (off_it r p.request (as_asked p c r i j e d) (deleted_gone physical s r l))))
 
-    as_it_was : Leaves s kept s
-    as_it_was = keeps_books s (fewer_itself s) (λ r i n. n) (λ p i. i) (λ p c r i j e l d. i)
-
     pub kept_left : Leaves s kept (keeping path physical w s)
-    kept_left = grind (arith, unknown, as_it_was, known)
+    kept_left = grind (arith, unknown, known, keeps_books, fewer_itself)
 
 -- A phase begins, an operation begins or ends, or an opening comes, and what a stack's entries and its ledger say of each other stays so.
 
 -- a resource as it is left where its template is complete is at its path, under its id
-settled_like : (whole : Whole) (s : StackState) (h : Held) → ((settled_in whole s h).path ≡ h.path) × ((settled_in whole s h).physical ≡ h.physical)
-settled_like whole s h = grind arith
-
 all_settled : (whole : Whole) (s : StackState) (hs : List Held) (h : Held) → In h (map (settled_in whole s) hs ++ []) → IsLike hs h
 all_settled whole s hs h i =
     each_mapped (IsLike hs) (settled_in whole s) hs
-    (λ h i. let k = settled_like whole s h in record { one = h; of_list = i; path = sym k.0; physical = sym k.1 }) h
+    (λ h i. record { one = h; of_list = i; path = grind arith; physical = grind arith }) h
     (subst (In h) (append-nil (map (settled_in whole s) hs)) i)
 
 mark_keeps : (ps : List Pending) → KeepsThing (marked ps)
 mark_keeps ps = record { path = λ h. grind arith; physical = λ h. grind arith; needs = λ h. grind arith; superseded = λ h. grind arith }
-
--- what a creation made is ranked by its plan
-made_ranked : (s : StackState) → ((r : Held) → In r s.made → r.needs ≡ needs_at r.path s) → (hs : List Held) → ((h : Held) → In h hs
-    → IsAlike s.made h) → AreRanked hs
-made_ranked s needs hs alike = record {
-  rank = plan_rank s;
-  lower = λ h g i j c d n. needs_lower s h.path g.path (among_in g.path (needs_at h.path s) (ap (is_among g.path) (sym (needs_alike s needs h (alike h i))) ∙ n));
-}
 
 module _ (s : StackState) (h : IsBooked s) where
   like_books : (hs : List Held) → ((r : Held) → In r hs → IsLike (resources_of s) r) → AreBooked s.operation s.ledger (answers_of s) s.tokens hs
@@ -541,15 +446,12 @@ module _ (s : StackState) (h : IsBooked s) where
 
   -- A phase begins.
   module _ (schemas : List Schema) (name : List ℕ) (x : World)
-      (forward : s.status ≡ Status.UpdateInProgress → (k : Call) → In k s.ledger → IsTrue (goes_forward k.status)) where
+      (forward : s.status ≡ Status.UpdateInProgress → (k : Call) → In k s.ledger → IsTrue (goes_forward k.status)) (number : ℕ) where
     anew_books : (hs : List Held) → ((r : Held) → In r hs → IsLike (resources_of s) r) → AreBooked s.operation (map anew s.ledger) (answers_of s ++ []) s.tokens hs
     anew_books hs less = rw (append-nil (answers_of s)) (booked_anew s.operation s.ledger (answers_of s) s.tokens hs (like_books hs less))
 
-    no_restore : (k : Call) → IsTrue (goes_forward k.status) → is_restoring k ≡ true → ⊥
-    no_restore k f r = grind arith
-
     turning_left : (p : Phase) (c : Option Cause) → (turned s.status p ≡ Status.DeleteInProgress → ⊥)
-        → (turned s.status p ≡ Status.UpdateRollbackInProgress → s.status ≡ Status.UpdateInProgress) → Leaves s (Entry.Phase s.operation p c) (turning p s)
+        → (turned s.status p ≡ Status.UpdateRollbackInProgress → s.status ≡ Status.UpdateInProgress) → Leaves s (Entry.Phase number p c) (turning p s)
     turning_left p c stays back = record {
       operation = refl;
       entries = refl;
@@ -558,13 +460,13 @@ module _ (s : StackState) (h : IsBooked s) where
       unretained = λ g. absurd (stays g);
       restoring = λ g.
           restoring_begun s.operation (map anew s.ledger) s.tokens s.before (answers_of s ++ [])
-          (λ k i n r. each_mapped (λ z. is_restoring z ≡ true → ⊥) anew s.ledger (λ z j. no_restore z (forward (back g) z j)) k i r);
+          (λ k i n r. each_mapped (λ z. is_restoring z ≡ true → ⊥) anew s.ledger (λ z j. λ r. grind arith) k i r);
       needs = h.needs;
       ranked = h.ranked;
     }
 
     pub phase_left : (p : Phase) (c : Option Cause) → MayTurn schemas name x s p c → (p ≡ Phase.Clean → AreRanked (turned_effect p s).stack.held)
-        → Leaves s (Entry.Phase s.operation p c) (turned_effect p s).stack
+        → Leaves s (Entry.Phase number p c) (turned_effect p s).stack
     phase_left Phase.Clean None may ranked = record {
       operation = refl;
       entries = refl;
@@ -577,25 +479,16 @@ module _ (s : StackState) (h : IsBooked s) where
     }
     phase_left Phase.Clean (Some c) may ranked = absurd may
     phase_left Phase.Back None may ranked = absurd may
-    phase_left Phase.Back (Some c) may ranked = turning_left Phase.Back (Some c) (never s.status) (back s.status may.0) where
-      never : (st : Status) → turned st Phase.Back ≡ Status.DeleteInProgress → ⊥
-      never st e = grind arith
-
+    phase_left Phase.Back (Some c) may ranked = turning_left Phase.Back (Some c) (λ e. grind arith) (back s.status may.0) where
       back : (st : Status) → stage_of st ≡ Some Forward → turned st Phase.Back ≡ Status.UpdateRollbackInProgress → st ≡ Status.UpdateInProgress
       back st at e = grind arith
     phase_left Phase.BackClean None may ranked = turning_left Phase.BackClean None (λ e. cc) (λ e. absurd (cc))
     phase_left Phase.BackClean (Some c) may ranked = absurd may
 
   -- An operation ends.
-  module _ (schemas : List Schema) (name : List ℕ) (x : World) (failed : List (List ℕ)) where
-    ended_none : (st state : Status) → EndsAs schemas name x s st state → is_in_progress state ≡ false
-    ended_none st state e = grind arith
-
-    from_rollback : (st : Status) → EndsAs schemas name x s st Status.RollbackFailed → st ≡ Status.RollbackInProgress
-    from_rollback st e = grind arith
-
+  module _ (schemas : List Schema) (name : List ℕ) (x : World) (number : ℕ) (failed : List (List ℕ)) where
     abbrev done : Status → Entry
-    done state = Entry.Done s.operation state failed
+    done state = Entry.Done number state failed
 
     ends_left : (state : Status) → is_in_progress state ≡ false → (t : StackState) → ((r : Held) → In r (resources_of t) → IsLike (resources_of s) r)
         → ((r : Held) → In r t.made → r.needs ≡ needs_at r.path t) → AreRanked t.held
@@ -626,12 +519,16 @@ module _ (s : StackState) (h : IsBooked s) where
     done_left Status.RollbackFailed ends ranked unheld =
         ends_left Status.RollbackFailed refl (ended_effect Status.RollbackFailed s).stack
         (λ r i. like_stopped r (subst (In r) (append-nil (map (marked s.tokens) s.held ++ map (marked s.tokens) s.made)) i)) (λ r i. elim i [ ])
-        (made_ranked s h.needs (map (marked s.tokens) s.held ++ map (marked s.tokens) s.made)
-        (λ r i. stopped.made r (subst (λ hs. In r (map (marked s.tokens) hs ++ map (marked s.tokens) s.made)) (unheld (from_rollback s.status ends)) i)))
+        (record {
+          rank = plan_rank s;
+          lower = λ g k i j c d n. needs_lower s g.path k.path (among_in k.path (needs_at g.path s) (ap (is_among k.path)
+              (sym (needs_alike s h.needs g (stopped.made g
+              (subst (λ hs. In g (map (marked s.tokens) hs ++ map (marked s.tokens) s.made)) (unheld (grind arith)) i)))) ∙ n));
+        })
     done_left Status.UpdateRollbackComplete ends ranked unheld = plain_left Status.UpdateRollbackComplete refl refl
     done_left Status.RollbackComplete ends ranked unheld = plain_left Status.RollbackComplete refl refl
     done_left Status.DeleteComplete ends ranked unheld = plain_left Status.DeleteComplete refl refl
-    done_left state ends ranked unheld = plain_left state (ended_none s.status state ends) refl
+    done_left state ends ranked unheld = plain_left state (grind arith) refl
 
   -- An operation begins.
   module _ (number : ℕ) (above : s.operation < number) (low : (c : Call) → In c s.ledger → c.number ≤ s.operation) (name : List ℕ) (k : Begun) where
@@ -659,8 +556,7 @@ module _ (s : StackState) (h : IsBooked s) where
     pub begins : (t : StackState) → t.operation ≡ number → t.ledger ≡ calls_kept k s → (es : List Entry) → ((d : Entry) → In d es → In d s.entries)
         → t.entries ≡ es ++ beginning_entry ∷ [] → ((r : Held) → In r t.made → r.needs ≡ needs_at r.path t) → AreRanked t.held → IsBooked t
     begins t operation ledger es of_stack entries needs ranked = record {
-      books = rw (ap replies_in own_is)
-          (booked_begun t.operation t.ledger t.tokens (resources_of t) other (λ c i. (row_before c (subst (In c) ledger i)).1));
+      books = grind (arith, own_is, booked_begun, other, row_before);
       numbered = λ d n i o. rw operation (below d n (subst (In d) entries i) o);
       none_failed = λ g. ap (flat_map failed_in) own_is;
       unretained = λ g c id i n. absurd (other c i n);
@@ -682,7 +578,7 @@ module _ (s : StackState) (h : IsBooked s) where
   -- An opening.
   pub opened_booked : (epoch : ℕ) (lanes : List (List ℕ × List ℕ)) (lines : List (List ℕ))
       → IsBooked (record s { ledger = map anew s.ledger; entries = entries_with (Entry.Opened epoch lanes) s.entries; events = lines })
-  opened_booked epoch lanes lines = record {
+  opened_booked epoch lanes lines = let own_is = own_opened s.operation epoch lanes s.entries in record {
     books = rw (ap replies_in own_is) (booked_anew s.operation s.ledger (answers_of s) s.tokens (resources_of s) h.books);
     numbered = λ d n i. in_opened (λ z. is_of n z ≡ true → n ≤ s.operation) epoch lanes s.entries
         (λ z j e. h.numbered z n j e) (λ e. absurd (true≢false (sym e))) d i;
@@ -694,9 +590,7 @@ module _ (s : StackState) (h : IsBooked s) where
     restoring = λ g. rw (ap replies_in own_is) (restoring_anew s.operation s.ledger (answers_of s) s.tokens s.before (h.restoring g));
     needs = h.needs;
     ranked = h.ranked;
-  } where
-    own_is : filter (is_of s.operation) (entries_with (Entry.Opened epoch lanes) s.entries) ≡ own_of s
-    own_is = own_opened s.operation epoch lanes s.entries
+  }
 
   -- A change set.
   pub reviewed_booked : (number : ℕ) (sets : List KeptSet) (lines : List (List ℕ))
@@ -738,58 +632,41 @@ module _ (schemas : List Schema) (x : World) (out : List ℕ) (name : List ℕ) 
   abbrev place : ℕ
   place = x.place + 1
 
-  at_most : s.operation ≤ x.operation
-  at_most = grind arith
-
   abbrev Now : Entry → Type 0
   Now e = IsBooked (effect_at place e s).stack
 
   abbrev WasWhole : Entry → Type 0
   WasWhole e = HoldsIfWhole name (world_after x e) (effect_at place e s).stack (effect_at place e s).stack.status
 
-  own_number : (s.operation == s.operation) ≡ true
-  own_number = eq-eqb s.operation s.operation refl
-
-  -- an entry of the operation is one of this stack's
-  stepped : (f : ℕ → Entry) (number : ℕ) → stack_of_operation number x ≡ Some (name, s) → MayFollowOn schemas number x out (f number) → IsNew x (f number)
-      → WasWhole (f number) → (stack_of_operation s.operation x ≡ Some (name, s) → GoesOn schemas x out s.operation (f s.operation) name s
-      → IsNew x (f s.operation) → WasWhole (f s.operation) → Now (f s.operation)) → Now (f number)
-  stepped f number on may new whole next =
-      subst (λ n. stack_of_operation n x ≡ Some (name, s) → GoesOn schemas x out n (f n) name s → IsNew x (f n) → WasWhole (f n) → Now (f n))
-      (sym (numbered_so schemas x out name s number on)) next on (goes_on schemas x out number (f number) name s on may) new whole
-
-  clean_ranked : (p : Phase) (w : Option Cause) → WasWhole (Entry.Phase s.operation p w) → p ≡ Phase.Clean → AreRanked (turned_effect p s).stack.held
-  clean_ranked p w whole e = grind (arith, whole_ranked)
-
-  created_ranked : (state : Status) (failed : List (List ℕ)) → WasWhole (Entry.Done s.operation state failed) → state ≡ Status.CreateComplete
-      → AreRanked (ended_effect state s).stack.held
-  created_ranked state failed whole e = grind (arith, whole_ranked)
-
   own_now : (e : Entry) → MayFollow schemas x out e → IsNew x e → stack_for e x ≡ Some (name, s) → WasWhole e → Now e
-  own_now (Entry.Opened epoch lanes) may new f whole = absurd (cc)
   own_now (Entry.Begin number n k) may new f whole =
-      let low : s.operation ≤ x.operation = at_most in
+      let low : s.operation ≤ x.operation = grind arith in
       let next : number ≡ x.operation + 1 = may.0 in
       begun_booked place number n k s c.booked (omega (arith, low, next)) fits.numbers
-  own_now (Entry.ChangeSet number n source rows outputs) may new f whole = reviewed_booked s c.booked _ _ _
-  own_now (Entry.Kept number path physical w) may new f whole = stepped (λ n. Entry.Kept n path physical w) number f may new whole
-      (λ on g new whole. booked_then s c.booked g.going (Entry.Kept s.operation path physical w) own_number (λ es. refl) refl _
-      (kept_left name x s fits c.booked on out g.stage g.at path physical w g.may) _)
-  own_now (Entry.Intent number token lane path r) may new f whole = stepped (λ n. Entry.Intent n token lane path r) number f may new whole
-      (λ on g new whole. booked_then s c.booked g.going (Entry.Intent s.operation token lane path r) own_number (λ es. refl) refl _
+  own_now (Entry.Kept number path physical w) may new f whole =
+      let g = goes_on schemas x out number (Entry.Kept number path physical w) name s f may in
+      booked_then s c.booked g.going _ (eq-eqb s.operation number g.is) (λ es. refl) refl _
+      (kept_left name x s fits c.booked number f out g.stage g.at path physical w g.may) _
+  own_now (Entry.Intent number token lane path r) may new f whole =
+      let g = goes_on schemas x out number (Entry.Intent number token lane path r) name s f may in
+      booked_then s c.booked g.going _ (eq-eqb s.operation number g.is) (λ es. refl) refl _
       (intent_left schemas name x s fits out c.booked g.stage g.at token lane path r g.may
-      (λ u. (subst (IsOnCourse schemas name x s) u c.stage).single_before)) _)
-  own_now (Entry.Outcome number token a before after) may new f whole = stepped (λ n. Entry.Outcome n token a before after) number f may new whole
-      (λ on g new whole. booked_then s c.booked g.going (Entry.Outcome s.operation token a before after) own_number (λ es. refl) refl _
-      (outcome_left name x s fits c.booked on token a before after g.may.1 g.may.2 new) _)
-  own_now (Entry.Phase number p w) may new f whole = stepped (λ n. Entry.Phase n p w) number f may new whole
-      (λ on g new whole. booked_then s c.booked g.going (Entry.Phase s.operation p w) own_number (λ es. refl) refl _
-      (phase_left s c.booked schemas name x (λ u k i. ((subst (IsOnCourse schemas name x s) u c.stage).1.calls k i).1) p w g.may.1
-      (clean_ranked p w whole)) _)
-  own_now (Entry.Done number state failed) may new f whole = stepped (λ n. Entry.Done n state failed) number f may new whole
-      (λ on g new whole. booked_then s c.booked g.going (Entry.Done s.operation state failed) own_number (λ es. refl) refl _
-      (done_left s c.booked schemas name x failed state g.may.2 (created_ranked state failed whole)
-      (λ u. (subst (IsOnCourse schemas name x s) u c.stage).none_held)) _)
+      (λ u. (subst (IsOnCourse schemas name x s) u c.stage).single_before) number g.is) _
+  own_now (Entry.Outcome number token a before after) may new f whole =
+      let g = goes_on schemas x out number (Entry.Outcome number token a before after) name s f may in
+      booked_then s c.booked g.going _ (eq-eqb s.operation number g.is) (λ es. refl) refl _
+      (outcome_left name x s fits c.booked number f token a before after g.may.1 g.may.2 new) _
+  own_now (Entry.Phase number p w) may new f whole =
+      let g = goes_on schemas x out number (Entry.Phase number p w) name s f may in
+      booked_then s c.booked g.going _ (eq-eqb s.operation number g.is) (λ es. refl) refl _
+      (phase_left s c.booked schemas name x (λ u k i. ((subst (IsOnCourse schemas name x s) u c.stage).1.calls k i).1)
+      number p w g.may.1 (λ e. grind (arith, whole_ranked))) _
+  own_now (Entry.Done number state failed) may new f whole =
+      let g = goes_on schemas x out number (Entry.Done number state failed) name s f may in
+      booked_then s c.booked g.going _ (eq-eqb s.operation number g.is) (λ es. refl) refl _
+      (done_left s c.booked schemas name x number failed state g.may.2 (λ e. grind (arith, whole_ranked))
+      (λ u. (subst (IsOnCourse schemas name x s) u c.stage).none_held)) _
+  own_now v0 may new f whole = grind (arith, reviewed_booked)
 
   opening_now : (e : Entry) → is_opening e ≡ true → Now e
   opening_now (Entry.Opened epoch lanes) o = opened_booked s c.booked epoch lanes _

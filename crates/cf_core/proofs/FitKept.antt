@@ -1,18 +1,13 @@
 -- Each entry that may be written keeps the fit of every stack.
 pub use Rattle.cf_plan.proofs.{BlameRows.into_mapped, ChangedLists.find_mapped, ChangedLists.find_left, Differ.one_id, Differ.one_number}
-pub use Rattle.cf_core.proofs.Stacks.{put_by}
+pub use Rattle.cf_core.proofs.{Stacks.put_by, Rows.IsSameCall, Rows.itself_same as same_call, Rows.answered_row_same as same_where}
 use Rattle.std.proofs.Common.{◌≡◌, ℕ, ◌==◌, List, [], ◌∷◌, Bool, true, false, Some, map, filter, find, refl, sym, ap, ◌∙◌, true≢false, option_map, ◌++◌, not, subst, None, ◌+◌, ◌≤◌, Option, arith, ◌⊎◌, inl, inr, unwrap_or}
-use Rattle.cf_core.proofs.Words.{AllFit, AreApart, AreSteady, Back, BackClean, BecomesBy, Begun, Call, Clean, Code, Data, EachIsWritten, Entry, Fits, FitsKept, FitsLane, Forward, Gone, HasLanes, Held, HeldStatus, In, IntendsDeletion, IntendsIn, IsKindFor, IsLaneFor, IsNamedLane, IsNew, IsOfItsLane, IsOfLane, IsRowOf, IsSteady, MayFollow, MayIntend, Pending, Phase, Reply, Request, Schema, StackState, Stage, Status, Thing, Why, World, all_differ, anew, answered, answered_call, at_opening, beginning, begins_from, bytes_eq, change_first, changing, closing, current_at, deleting, effect_at, ended_effect, first_so, has_physical, has_token, heard, held_in, id_named, is_among, is_at, is_call, is_create_at, is_lane_of, is_on, is_open_call, is_opening, is_restore, keeping, keeping_known, keeping_unknown, known_stack, list_any, made_of, marked, new_call, no_stack, on_stack, option_map_or, other, own, pending_of, replied, resources_of, second_so, settled_in, skipped_in, stack_at, stack_for, stack_of_operation, status_made, still_open, stopping, terms_at, there, thing_of, turned_effect, turning, updating, value_at, where_call, whole_now, with_status, without, without_token, world_after}
-use Rattle.cf_core.proofs.Lemmas.{any_of, append-nil, bytes_eq-Decides, bytes_or, differ_end, differ_less, either_way, eq-eqb, eqb-true, filter-append, find-append, found_in_more, found_one, found_still, in_back, in_filter, in_front, in_kept, in_more, keys_mapped, map-append, map_in, none_any, none_false, none_passes, not-true, or_left, or_right, other_bytes, put_else, put_here, some_is, some_of, token_after, value_under}
-use Rattle.cf_core.proofs.{Outcomes.LeavesThing, Outcomes.marked_leaves, Outcomes.settled_leaves, Statuses.kept_way}
+use Rattle.cf_core.proofs.Words.{AllFit, AreApart, AreSteady, BecomesBy, Begun, Call, Clean, Data, EachIsWritten, Entry, Fits, FitsKept, FitsLane, Forward, HasLanes, Held, HeldStatus, In, IntendsIn, IsKindFor, IsLaneFor, IsNamedLane, IsNew, IsOfItsLane, IsOfLane, IsRowOf, IsSteady, MayFollow, MayIntend, Pending, Phase, Reply, Request, Schema, StackState, Stage, Status, Thing, Why, World, all_differ, anew, answered, answered_call, at_opening, beginning, bytes_eq, change_first, changing, closing, current_at, deleting, effect_at, ended_effect, first_so, has_physical, has_token, heard, held_in, id_named, is_among, is_at, is_call, is_create_at, is_lane_of, is_on, is_open_call, is_opening, is_restore, keeping, keeping_known, keeping_unknown, known_stack, list_any, made_of, marked, new_call, no_stack, on_stack, option_map_or, other, own, pending_of, replied, resources_of, settled_in, skipped_in, stack_at, stack_for, stack_of_operation, status_made, still_open, stopping, terms_at, there, thing_of, turned_effect, turning, updating, value_at, where_call, whole_now, with_status, without, world_after}
+use Rattle.cf_core.proofs.Lemmas.{append_assoc, any_of, append-nil, bytes_eq-Decides, bytes_or, differ_end, differ_less, either_way, eq-eqb, eqb-true, filter-append, find-append, found_in_more, found_one, found_still, in_back, in_filter, in_front, in_kept, in_more, keys_mapped, map-append, map_in, none_any, none_false, none_passes, not-true, or_left, or_right, other_bytes, put_else, put_here, some_is, some_of, token_after, value_under}
+use Rattle.cf_core.proofs.{Rows.anew_same, Rows.answered_row, Outcomes.LeavesThing, Outcomes.marked_leaves, Outcomes.settled_leaves, Statuses.kept_way}
 use Rattle.cf_core.proofs.Stacks.{Found, exports_by, known_for, left_of}
 use Rattle.cf_core.proofs.Moving.{beginning_name, in_stage, numbered_so}
-use Rattle.std.proofs.lemmas.List.{append_assoc}
 use Rattle.std.specs.{Bool.IsTrue, Prelude.cond, Prelude.is_some}
-
--- a member of a mapped list is what one of the list is mapped to
-pub from_mapped : {A B : Type 0} (f : A → B) (xs : List A) (y : B) → In y (map f xs) → (x : A) × In x xs × (f x ≡ y)
-from_mapped f xs y = map_in f y xs
 
 -- What names the resources of a stack, their paths, ids and types, and what is left of them.
 
@@ -79,10 +74,6 @@ keys_front f k hs gs = keys_two hs gs (map f hs) gs (keys_changed f k hs) refl
 pub keys_joined : (f : Held → Held) → KeepsKey f → (hs : List Held) → keys_in (map f hs ++ []) ≡ keys_in hs
 keys_joined f k hs = ap keys_in (append-nil (map f hs)) ∙ keys_changed f k hs
 
--- one resource is changed
-pub keys_changing : (id : List ℕ) (f : Held → Held) → KeepsKey f → (s : StackState) → keys_of (changing id f s) ≡ keys_of s
-keys_changing id f k s = grind (arith, either_way, keys_two, keys_first)
-
 -- one is taken off
 keys_without : (id : List ℕ) (hs : List Held) → keys_in (without id hs) ≡ filter (has_other id) (keys_in hs)
 keys_without id [] = refl
@@ -92,20 +83,6 @@ pub keys_deleted : (id : List ℕ) (s : StackState) → keys_of (deleting id s) 
 keys_deleted id s = ap keys_in (sym (filter-append (λ h. not (has_physical id h)) s.held s.made)) ∙ keys_without id (resources_of s)
 
 -- What stays of the rows of a ledger: each open call keeps its row.
-
--- the same call
-pub record IsSameCall (c d : Call) : Type 0 where
-  pub number : d.number ≡ c.number
-  pub token : d.token ≡ c.token
-  pub lane : d.lane ≡ c.lane
-  pub path : d.path ≡ c.path
-  pub request : d.request ≡ c.request
-
-pub same_call : (c : Call) → IsSameCall c c
-same_call c = record { number = refl; token = refl; lane = refl; path = refl; request = refl }
-
-same_then : (c d e : Call) → IsSameCall c d → IsSameCall d e → IsSameCall c e
-same_then c d e h k = search
 
 -- of these rows those are left, where these calls are open
 pub record AreRowsLeft (ps : List Pending) (cs ds : List Call) : Type 0 where
@@ -119,7 +96,7 @@ pub rows_same : (ps : List Pending) (cs : List Call) → AreRowsLeft ps cs cs
 rows_same ps cs = record { row = λ p i c e n. (c, e, same_call c, n); tokens = λ d. d; from = λ d i. (d, i, same_call d) }
 
 pub rows_then : (ps : List Pending) (cs ds es : List Call) → AreRowsLeft ps cs ds → AreRowsLeft ps ds es → AreRowsLeft ps cs es
-rows_then ps cs ds es h k = grind (arith, same_then)
+rows_then ps cs ds es h k = grind arith
 
 -- rows that change one by one
 pub rows_mapped :
@@ -134,12 +111,12 @@ rows_mapped ps f same open_ cs = record {
   );
   tokens = λ d. ap (all_differ ◌==◌) (keys_mapped f (λ c. c.token) (λ c. c.token) cs (λ c. (same c).token)) ∙ d;
   from = λ d i.
-      let (c, j, e) = from_mapped f cs d i in
+      let (c, j, e) = map_in f d cs i in
       (c, j, subst (IsSameCall c) e (same c));
 }
 
 pub rows_anew : (ps : List Pending) (cs : List Call) → AreRowsLeft ps cs (map anew cs)
-rows_anew ps cs = rows_mapped ps anew (λ c. record { number = refl; token = refl; lane = refl; path = refl; request = refl }) (λ p c i e n. n) cs
+rows_anew ps cs = rows_mapped ps anew anew_same (λ p c i e n. n) cs
 
 -- those of the open calls alone
 pub rows_open : (ps : List Pending) (cs : List Call) → AreRowsLeft ps cs (filter (is_open_call ps) cs)
@@ -151,31 +128,12 @@ rows_open ps cs = record {
   from = λ d i. (d, (in_filter (is_open_call ps) cs d i).0, same_call d);
 }
 
--- A call that is answered: its row has the answer, and it is not open any more, but where it is in doubt.
-pub still_in : (token : ℕ) (a : Reply) (ps : List Pending) (p : Pending) → In p (still_open token a ps) → In p ps
-still_in token a ps p i = grind (arith, in_filter)
-
-pub still_differ : (token : ℕ) (a : Reply) (ps : List Pending) → all_differ ◌==◌ (map (λ p. p.token) ps) ≡ true → all_differ ◌==◌ (map (λ p. p.token) (still_open token a ps)) ≡ true
-still_differ token a ps d = grind (arith, differ_less)
-
-closed_other : (token : ℕ) (ps : List Pending) (p : Pending) → In p (without_token token ps) → token ≡ p.token → ⊥
-closed_other token ps p i e = grind (arith, not-true, in_filter, true≢false, eq-eqb)
-
-pub same_answered : (a : Reply) (c : Call) → IsSameCall c (answered_call a c)
-same_answered a c = grind arith
-
-pub same_where : (token : ℕ) (a : Reply) (c : Call) → IsSameCall c (cond (is_call token c) (answered_call a c) c)
-same_where token a c = either_way (IsSameCall c) (is_call token c) (answered_call a c) c (same_answered a c) (same_call c)
+open_yet : (token : ℕ) (a : Reply) (ps : List Pending) (p : Pending) (c : Call) → In p (still_open token a ps) → p.token ≡ c.token
+    → c.answer ≡ None → (answered_row token a c).answer ≡ None
+open_yet token a ps p c i e n = grind (arith, eqb-true, not-true, in_filter, eq-eqb)
 
 pub rows_answered : (token : ℕ) (a : Reply) (ps : List Pending) (cs : List Call) → AreRowsLeft (still_open token a ps) cs (where_call token (answered_call a) cs)
-rows_answered token a ps cs = rows_mapped (still_open token a ps) (λ c. cond (is_call token c) (answered_call a c) c) (same_where token a) (λ p c i e n. open_ p c (is_call token c) refl i e n) cs where
-  by : (b : Reply) (p : Pending) (c : Call) → token ≡ c.token → In p (still_open token b ps) → p.token ≡ c.token → c.answer ≡ None → (answered_call b c).answer ≡ None
-  by Reply.Doubt p c t i e n = n
-  by b p c t i e n = absurd (closed_other token ps p i (t ∙ sym e))
-
-  open_ : (p : Pending) (c : Call) (b : Bool) → is_call token c ≡ b → In p (still_open token a ps) → p.token ≡ c.token → c.answer ≡ None → (cond b (answered_call a c) c).answer ≡ None
-  open_ p c true t i e n = by a p c (eqb-true token c.token t) i e n
-  open_ p c false t i e n = n
+rows_answered token a ps cs = rows_mapped (still_open token a ps) (answered_row token a) (same_where token a) (open_yet token a ps) cs
 
 -- A stack fits after a change that leaves of its calls and resources what it does.
 
@@ -190,10 +148,7 @@ pub record IsLess (s t : StackState) : Type 0 where
 
 -- a resource of a stack is one of another, where the keys are
 pub with_key : (s : StackState) (k : Key) → In k (keys_of s) → (r : Held) × In r (resources_of s) × (key_of r ≡ k)
-with_key s k i = from_mapped key_of (resources_of s) k i
-
-pub lane_by : (lanes : List (List ℕ × List ℕ)) (q r : Held) → key_of q ≡ key_of r → IsNamedLane lanes q.physical q.kind → IsNamedLane lanes r.physical r.kind
-lane_by lanes q r e h = subst (λ (k : Key). IsNamedLane lanes k.physical k.kind) e h
+with_key s k i = map_in key_of k (resources_of s) i
 
 module _ (x y : World) (s t : StackState) (h : Fits x s) where
   pub fits_less : IsLess s t → HasLanes y.lanes s → x.token ≤ y.token → Fits y t
@@ -210,21 +165,12 @@ module _ (x y : World) (s t : StackState) (h : Fits x s) where
         let (b, f, m, n) = (d.rows).row p i c e r.unanswered in
         (b, f, record { lane = m.lane ∙ r.lane; path = m.path ∙ r.path; request = m.request ∙ r.request; unanswered = n });
     row_tokens = (d.rows).tokens h.row_tokens;
-    last = λ b i.
-        let (c, j, m) = (d.rows).from b i in
-        let low : c.token ≤ x.token = h.last c j in
-        let same : b.token ≡ c.token = m.token in
-        omega (arith, low, same, more);
-    numbers = λ b i.
-        let (c, j, m) = (d.rows).from b i in
-        let low : c.number ≤ s.operation = h.numbers c j in
-        let same : b.number ≡ c.number = m.number in
-        let up : s.operation ≤ t.operation = d.operation in
-        omega (arith, low, same, up);
+    last = grind arith;
+    numbers = grind arith;
     lanes = (
       λ r i.
           let (q, j, e) = with_key s (key_of r) (in_keyed d.keyed (key_of r) (into_mapped key_of (resources_of t) r i)) in
-          lane_by y.lanes q r e (lanes.0 q j),
+          (subst (λ (k : Key). IsNamedLane y.lanes k.physical k.kind) e (lanes.0 q j)),
       λ p i. lanes.1 p (d.open_ p i),
     );
   }
@@ -234,8 +180,7 @@ module _ (x y : World) (s t : StackState) (h : Fits x s) where
       (r : Held) → resources_of t ≡ resources_of s ++ r ∷ [] → ((q : Held) → In q (resources_of s) → q.physical ≡ r.physical → ⊥) → IsNamedLane x.lanes r.physical r.kind
       → t.tokens ≡ s.tokens → t.ledger ≡ s.ledger → t.operation ≡ s.operation → Fits x t
   fits_made r made new lane tokens ledger operation = record {
-    ids = ap (λ hs. all_differ bytes_eq (map (λ (g : Held). g.physical) hs)) made
-        ∙ differ_end bytes_eq (λ (g : Held). g.physical) (resources_of s) r (λ q i. none_false _ (λ e. new q i ((bytes_eq-Decides q.physical r.physical).0 e))) h.ids;
+    ids = grind (arith, differ_end, none_false, bytes_eq-Decides);
     tokens = ap (λ ps. all_differ ◌==◌ (map (λ (p : Pending). p.token) ps)) tokens ∙ h.tokens;
     paths = λ p q i j. h.paths p q (subst (In p) tokens i) (subst (In q) tokens j);
     named = λ p id i e.
@@ -282,8 +227,7 @@ module _ (x y : World) (s t : StackState) (h : Fits x s) where
         → ((q : Pending) → In q s.tokens → p.path ≡ q.path → ⊥) → HasNamed p → (l : List ℕ × List ℕ) → In l x.lanes → IsLaneFor p l → Fits y t
     fits_called same operation low lanes token free names l l_in l_for = record {
       ids = ap (λ hs. all_differ bytes_eq (map (λ (g : Held). g.physical) hs)) same ∙ h.ids;
-      tokens = ap (λ ps. all_differ ◌==◌ (map (λ (q : Pending). q.token) ps)) tokens
-          ∙ differ_end ◌==◌ (λ (q : Pending). q.token) s.tokens p (λ q i. none_false _ (λ e. none_open p.token new q i (sym (eqb-true q.token p.token e)))) h.tokens;
+      tokens = grind (arith, differ_end, none_false, none_open, eqb-true);
       paths = λ q r i j e. paths_more q r (subst (In q) tokens i) (subst (In r) tokens j) e;
       named = λ q id i e.
           let (r, j, f, g) = in_more HasNamed p s.tokens (λ z k id e. h.named z id k e) names q (subst (In q) tokens i) id e in
@@ -291,8 +235,7 @@ module _ (x y : World) (s t : StackState) (h : Fits x s) where
       rows = λ q i.
           let (c, e, f) = in_more HasRow p s.tokens row_still (new_call number state p, found_new, record { lane = refl; path = refl; request = refl; unanswered = refl }) q (subst (In q) tokens i) in
           (c, ap (find (is_call q.token)) ledger ∙ e, f);
-      row_tokens = ap (λ cs. all_differ ◌==◌ (map (λ (c : Call). c.token) cs)) ledger
-          ∙ differ_end ◌==◌ (λ (c : Call). c.token) s.ledger (new_call number state p) (λ c i. none_false _ (λ e. none_above p.token new c i (sym (eqb-true c.token p.token e)))) h.row_tokens;
+      row_tokens = grind (arith, differ_end, none_false, none_above, eqb-true);
       last = λ c i. subst (λ n. c.token ≤ n) (sym token) (in_more (λ (z : Call). z.token ≤ p.token) (new_call number state p) s.ledger
           (λ z j. let lower : z.token ≤ x.token = h.last z j in omega (arith, lower, new)) (omega arith) c (subst (In c) ledger i));
       numbers = λ c i. subst (λ n. c.number ≤ n) (sym operation) (in_more (λ (z : Call). z.number ≤ s.operation) (new_call number state p) s.ledger h.numbers low c (subst (In c) ledger i));
@@ -418,9 +361,6 @@ pub record IsSameBut (s u : StackState) : Type 0 where
 same_self : (s : StackState) → IsSameBut s s
 same_self s = record { tokens = refl; ledger = refl; operation = refl }
 
-same_changing : (id : List ℕ) (f : Held → Held) (s : StackState) → IsSameBut s (changing id f s)
-same_changing id f s = grind arith
-
 -- What an answer leaves of the resources: they stay, or that which was to be deleted is gone, or one more is made.
 pub data IsLeftBy (s : StackState) (path : List ℕ) : Request → Reply → StackState → Type 0 where
   same : {r : Request} {a : Reply} {u : StackState} → IsSameBut s u → keys_of u ≡ keys_of s → IsLeftBy s path r a u
@@ -429,13 +369,10 @@ pub data IsLeftBy (s : StackState) (path : List ℕ) : Request → Reply → Sta
       → IsLeftBy s path (Request.Create k props) (Reply.Success id attrs) u
 
 by_change : (s : StackState) (path : List ℕ) (r : Request) (a : Reply) (id : List ℕ) (f : Held → Held) → ((h : Held) → key_of (f h) ≡ key_of h) → IsLeftBy s path r a (changing id f s)
-by_change s path r a id f k = same (same_changing id f s) (keys_changing id f k s)
+by_change s path r a id f k = same (grind arith) (grind (arith, either_way, keys_two, keys_first))
 
 by_deletion : (s : StackState) (path : List ℕ) (a : Reply) (id : List ℕ) → (a ≡ Reply.Doubt → ⊥) → IsLeftBy s path (Request.Delete id) a (deleting id s)
 by_deletion s path a id n = gone id (record { tokens = refl; ledger = refl; operation = refl }) refl n (keys_deleted id s)
-
-by_refusal : (restores : Bool) (s : StackState) (path id : List ℕ) (c : Code) → IsLeftBy s path (Request.Delete id) (Reply.Failed c) (answered restores path (Request.Delete id) (Reply.Failed c) s)
-by_refusal restores s path id c = grind (arith, by_deletion, by_change)
 
 pub left_by : (restores : Bool) (path : List ℕ) (r : Request) (a : Reply) (s : StackState) → IsLeftBy s path r a (answered restores path r a s)
 left_by restores path (Request.Create k props) (Reply.Success id attrs) s =
@@ -446,11 +383,8 @@ left_by restores path (Request.Update id props) (Reply.Failed c) s =
     either_way (IsLeftBy s path (Request.Update id props) (Reply.Failed c)) restores (with_status id HeldStatus.UpdateFailed s) s
     (by_change s path (Request.Update id props) (Reply.Failed c) id (λ h. record h { status = HeldStatus.UpdateFailed }) (λ h. refl)) (same (same_self s) refl)
 left_by restores path (Request.Delete id) (Reply.Success physical attrs) s = by_deletion s path (Reply.Success physical attrs) id (λ e. let no : ⊥ = cc in no)
-left_by restores path (Request.Delete id) (Reply.Failed c) s = by_refusal restores s path id c
+left_by restores path (Request.Delete id) (Reply.Failed c) s = grind (arith, by_deletion, by_change)
 left_by restores path r a s = same (same_self s) refl
-
-still_other : (token : ℕ) (a : Reply) (ps : List Pending) (p : Pending) → (a ≡ Reply.Doubt → ⊥) → In p (still_open token a ps) → token ≡ p.token → ⊥
-still_other token a ps p n i e = grind (arith, closed_other)
 
 module _ (x y : World) (s : StackState) (h : Fits x s) (token : ℕ) (q : Pending) (found : pending_of token s ≡ Some q) (lanes : y.lanes ≡ x.lanes) (last : y.token ≡ x.token) where
   -- no other open call names the id that this one names
@@ -458,20 +392,19 @@ module _ (x y : World) (s : StackState) (h : Fits x s) (token : ℕ) (q : Pendin
   not_named a id e n p i j f = none_false (bytes_eq id i) (λ t.
       let (k, m) = found_one (has_token token) s.tokens q found in
       let (r, r_in, r_id, r_path) = h.named q id k e in
-      let (g, g_in, g_id, g_path) = h.named p i (still_in token a s.tokens p j) f in
+      let (g, g_in, g_id, g_path) = h.named p i (grind (arith, in_filter)) f in
       let one : r ≡ g = one_id (λ (z : Held). z.physical) (resources_of s) h.ids r g r_in g_in (r_id ∙ (bytes_eq-Decides id i).0 t ∙ sym g_id) in
-      let call : q ≡ p = h.paths q p k (still_in token a s.tokens p j) (sym r_path ∙ ap (λ (z : Held). z.path) one ∙ g_path) in
-      still_other token a s.tokens p n j (eqb-true token q.token m ∙ ap (λ (z : Pending). z.token) call))
+      let call : q ≡ p = h.paths q p k (grind (arith, in_filter)) (sym r_path ∙ ap (λ (z : Held). z.path) one ∙ g_path) in
+      (grind (arith, not-true, in_filter, eq-eqb)))
 
   -- the calls of what is left
   less_closed : (a : Reply) (u : StackState) → IsSameBut s u → (k : Keyed (keys_of s) (keys_of u)) → ((p : Pending) (i : List ℕ) → In p (still_open token a s.tokens) → id_named p.request ≡ Some i → IsLeft k i) → IsLess s (closing token a u)
   less_closed a u b k left = record {
     keyed = k;
     left = λ p i j. left p i (subst (λ ps. In p (still_open token a ps)) b.tokens j);
-    open_ = λ p i. still_in token a s.tokens p (subst (λ ps. In p (still_open token a ps)) b.tokens i);
-    tokens = λ d. ap (λ ps. all_differ ◌==◌ (map (λ (p : Pending). p.token) (still_open token a ps))) b.tokens ∙ still_differ token a s.tokens d;
-    rows = subst (λ cs. AreRowsLeft (still_open token a u.tokens) s.ledger (where_call token (answered_call a) cs)) (sym b.ledger)
-        (subst (λ ps. AreRowsLeft (still_open token a ps) s.ledger (where_call token (answered_call a) s.ledger)) (sym b.tokens) (rows_answered token a s.tokens s.ledger));
+    open_ = λ p i. grind (arith, in_filter);
+    tokens = λ d. ap (λ ps. all_differ ◌==◌ (map (λ (p : Pending). p.token) (still_open token a ps))) b.tokens ∙ (grind (arith, differ_less));
+    rows = grind (arith, rows_answered);
     operation = let same : u.operation ≡ s.operation = b.operation in omega (arith, same);
   }
 
@@ -559,68 +492,30 @@ stands_by x h e name t g = elim (at_name x e name refl) [
   | of_another never now ↦ record { stack = t; known = known_by x name t (sym now ∙ g); becomes = other refl never; there = inr (sym now ∙ g) }
 ]
 
--- what is found at a path is held there
-held_at : (path : List ℕ) (hs : List Held) (h : Held) → current_at path hs ≡ Some h → In h hs × (h.path ≡ path)
-held_at path hs h e =
-    let (i, t) = found_one _ hs h e in
-    (i, sym ((bytes_eq-Decides path h.path).0 (first_so (is_at path h) (not h.superseded) t)))
-
 abbrev IsNamedIn : StackState → List ℕ → List ℕ → Type 0
 IsNamedIn s path id = (r : Held) × In r (resources_of s) × (r.physical ≡ id) × (r.path ≡ path)
-
-deletion_named : (stage : Stage) (s : StackState) (path : List ℕ) (r : Request) (id : List ℕ) → IntendsDeletion stage s path r → id_named r ≡ Some id → IsNamedIn s path id
-deletion_named stage s path r id d e = grind (arith, in_front, in_back)
 
 -- what a call names is a resource of the stack, at the call's path
 pub intends_named :
     (stage : Stage) (schemas : List Schema) (name : List ℕ) (x : World) (s : StackState) (path : List ℕ) (r : Request) (id : List ℕ) → IsSteady s
     → IntendsIn stage schemas name x s path r → id_named r ≡ Some id → IsNamedIn s path id
-intends_named Forward schemas name x s path (Request.Create k props) id steady m e = let none : ⊥ = cc in absurd none
 intends_named Forward schemas name x s path (Request.Update physical props) id steady (a, b, c, (h, at, of, known, wants, rest)) e =
-    let (i, p) = held_at path s.held h at in
+    let (i, t) = found_one _ s.held h at in
     let same : physical ≡ id = cc in
-    (h, in_front h s.held s.made i, sym of ∙ same, p)
-intends_named Forward schemas name x s path (Request.Delete physical) id steady (a, b, c, d) e = absurd d
-intends_named Back schemas name x s path r id steady (inl d) e = deletion_named Back s path r id d e
-intends_named Back schemas name x s path (Request.Create k props) id steady (inr d) e = absurd d
-intends_named Back schemas name x s path (Request.Delete physical) id steady (inr d) e = absurd d
-intends_named Back schemas name x s path (Request.Update physical props) id steady (inr (state, b, todo, at, of, props_are, rest)) e = grind (arith, in_front)
-intends_named Clean schemas name x s path r id steady d e = deletion_named Clean s path r id d e
-intends_named BackClean schemas name x s path r id steady d e = deletion_named BackClean s path r id d e
-intends_named Gone schemas name x s path r id steady d e = deletion_named Gone s path r id d e
+    (h, in_front h s.held s.made i, sym of ∙ same, sym ((bytes_eq-Decides path h.path).0 (first_so (is_at path h) (not h.superseded) t)))
+intends_named v0 schemas name x s path r id steady m e = grind (arith, in_front, in_back)
 
 -- a lane that fits the request is one of those that were handed in
 pub fitting_lane : (x : World) (p : Pending) (r : Request) → p.request ≡ r → FitsLane x p.lane r → (l : List ℕ × List ℕ) × In l x.lanes × IsLaneFor p l
-fitting_lane x p (Request.Create k props) e t =
-    let f = some_of (is_lane_of p.lane k) x.lanes t in
-    let l = f.one in
-    let lane : l.0 ≡ p.lane = sym ((bytes_eq-Decides p.lane l.0).0 (first_so (bytes_eq p.lane l.0) (bytes_eq k l.1) f.passes)) in
-    let kind : l.1 ≡ k = sym ((bytes_eq-Decides k l.1).0 (second_so (bytes_eq p.lane l.0) (bytes_eq k l.1) f.passes)) in
-    (l, f.of_list, (lane, subst (λ q. IsKindFor q l.1) (sym e) kind))
-fitting_lane x p _ e t =
-    let f = some_of (λ (l : List ℕ × List ℕ). bytes_eq p.lane l.0) x.lanes t.1 in
-    let l = f.one in
-    (l, f.of_list, (sym ((bytes_eq-Decides p.lane l.0).0 f.passes), subst (λ q. IsKindFor q l.1) (sym e) tt))
+fitting_lane x p (Request.Create k props) e t = let f = some_of (is_lane_of p.lane k) x.lanes t in grind (arith, bytes_eq-Decides)
+fitting_lane x p _ e t = let f = some_of (λ (l : List ℕ × List ℕ). bytes_eq p.lane l.0) x.lanes t.1 in grind (arith, bytes_eq-Decides)
 
 -- what holds of each stack that is there, and of one of which nothing is known, holds of the known one of a name
 pub at_known : (P : StackState → Type 0) (x : World) (name : List ℕ) → P no_stack → ((s : StackState) → stack_at name x ≡ Some s → P s) → P (known_stack name x)
 at_known P x name none each = grind arith
 
--- no operation is above the last one
-last_known : (x : World) → AreApart x → (n : List ℕ) → (known_stack n x).operation ≤ x.operation
-last_known x h n = at_known (λ (s : StackState). s.operation ≤ x.operation) x n (omega arith) (h.last n)
-
-none_made : (k : Begun) (s : StackState) → IsSteady s → IsTrue (begins_from k s.status) → HasNoneMade k s
-none_made k s steady t = grind (arith, or_left, or_right)
-
 module _ (schemas : List Schema) (x : World) (out : List ℕ) (apart : AreApart x) where
   module _ (s : StackState) (steady : IsSteady s) (h : Fits x s) where
-    less_fits : (e : Entry) (t : StackState) → is_opening e ≡ false → x.token ≤ (world_after x e).token → IsLess s t → Fits (world_after x e) t
-    less_fits e t n more d = fits_less x (world_after x e) s t h d (subst (λ ls. HasLanes ls s) (sym (after_lanes x e n)) h.lanes) more
-
-    token_same : (e : Entry) → (world_after x e).token ≡ x.token → x.token ≤ (world_after x e).token
-    token_same e f = omega (arith, f)
-
     intent_fits : (name : List ℕ) (number token : ℕ) (lane path : List ℕ) (r : Request) → number ≡ s.operation → (stage : Stage) → MayIntend schemas name x out s stage token lane path r
         → Fits (world_after x (Entry.Intent number token lane path r)) (effect_at (x.place + 1) (Entry.Intent number token lane path r) s).stack
     intent_fits name number token lane path r of stage m =
@@ -643,21 +538,20 @@ module _ (schemas : List Schema) (x : World) (out : List ℕ) (apart : AreApart 
       e : Entry
       e = Entry.Outcome number token a before after
 
-      y : World
-      y = world_after x e
-
-      by : (o : Option Pending) → pending_of token s ≡ o → IsTrue (is_some o) → Fits y (effect_at (x.place + 1) e s).stack
+      by : (o : Option Pending) → pending_of token s ≡ o → IsTrue (is_some o) → Fits (world_after x e) (effect_at (x.place + 1) e s).stack
       by None f t = absurd (true≢false (sym t))
       by (Some q) f t =
           let u = closing token a (answered (is_restore token s) q.path q.request a s) in
-          let fit : Fits y u =
-          fits_answered x y s h token q f (after_lanes x e refl) (after_token x e) a (answered (is_restore token s) q.path q.request a s) (left_by (is_restore token s) q.path q.request a s)
+          let fit : Fits (world_after x e) u =
+          fits_answered x (world_after x e) s h token q f (after_lanes x e refl) (after_token x e) a
+          (answered (is_restore token s) q.path q.request a s) (left_by (is_restore token s) q.path q.request a s)
           (λ id attrs g n. (
             subst (λ b. IsOfItsLane x (Entry.Outcome number token b before after)) g lane name s q going f n,
             (subst (λ b. IsNew x (Entry.Outcome number token b before after)) g new name s q going f n).resources,
           )) in
-          subst (λ o. Fits y (heard (x.place + 1) e s (on_stack (replied token a o s))).stack) (sym f)
-          (fits_less y y u (heard (x.place + 1) e s (on_stack u)).stack fit (less_heard u u _ _ (less_self u)) fit.lanes (omega arith))
+          subst (λ o. Fits (world_after x e) (heard (x.place + 1) e s (on_stack (replied token a o s))).stack) (sym f)
+          (fits_less (world_after x e) (world_after x e) u (heard (x.place + 1) e s (on_stack u)).stack fit
+          (less_heard u u _ _ (less_self u)) fit.lanes (omega arith))
 
   -- an entry that is no call, no answer and no opening makes nothing new
   abbrev pub IsPlain : Entry → Type 0
@@ -671,11 +565,12 @@ module _ (schemas : List Schema) (x : World) (out : List ℕ) (apart : AreApart 
       → IsLess s (effect_at (x.place + 1) e s).stack
   own_less (Entry.Begin number n k) name s mine may steady plain =
       let known : known_stack n x ≡ s = ap (λ m. known_stack m x) (beginning_name schemas x out name s number n k mine) ∙ stack_known x apart (Entry.Begin number n k) name s mine in
-      let low : (known_stack n x).operation ≤ x.operation = last_known x apart n in
+      let low : (known_stack n x).operation ≤ x.operation = at_known (λ (z : StackState). z.operation ≤ x.operation) x n (omega arith)
+      (apart.last n) in
       let same : (known_stack n x).operation ≡ s.operation = ap (λ (z : StackState). z.operation) known in
       let next : number ≡ x.operation + 1 = may.0 in
       less_heard s (beginning n number k s) _ _
-      (less_begun n number k s (omega (arith, low, same, next)) (none_made k s steady (subst (λ (z : StackState). IsTrue (begins_from k z.status)) known may.1)))
+      (less_begun n number k s (omega (arith, low, same, next)) (grind (arith, or_left, or_right)))
   own_less (Entry.ChangeSet number n source rows outputs) name s mine may steady plain =
       less_stay s (effect_at (x.place + 1) (Entry.ChangeSet number n source rows outputs) s).stack refl refl (rows_same s.tokens s.ledger) (same_number s.operation)
   own_less (Entry.Kept number path physical w) name s mine may steady plain = less_heard s (keeping path physical w s) _ _ (less_kept path physical w s)
@@ -693,17 +588,15 @@ module _ (schemas : List Schema) (x : World) (out : List ℕ) (apart : AreApart 
       outcome_fits s steady h name number token a before after mine m.1 new lane
   own_fits (Entry.ChangeSet number n source rows outputs) name s mine may new lane steady h = grind arith
   own_fits e name s mine may new lane steady h =
-      less_fits s steady h e (effect_at (x.place + 1) e s).stack refl (token_same s steady h e (after_token x e)) (own_less e name s mine may steady tt)
-
--- a stack of which nothing is known fits, and is steady
-pub fits_none : (x : World) → Fits x no_stack
-fits_none x = grind arith
+      let same : (world_after x e).token ≡ x.token = after_token x e in
+      fits_less x (world_after x e) s _ h (own_less e name s mine may steady tt)
+      (subst (λ ls. HasLanes ls s) (sym (after_lanes x e refl)) h.lanes) (omega (arith, same))
 
 pub steady_none : IsSteady no_stack
 steady_none = record { rests = λ t. (refl, refl); restores = λ e b i. elim i [ ]; gives_up = λ e p i. elim i [ ] }
 
 pub known_fits : (x : World) → AllFit x → (name : List ℕ) → Fits x (known_stack name x)
-known_fits x all name = at_known (Fits x) x name (fits_none x) (all name)
+known_fits x all name = at_known (Fits x) x name (grind arith) (all name)
 
 pub known_steady : (x : World) → AreSteady x → (name : List ℕ) → IsSteady (known_stack name x)
 known_steady x all name = at_known IsSteady x name steady_none (all name)
@@ -721,9 +614,6 @@ opening_fits schemas x out (Entry.Opened epoch lanes) name s n may (inr e) h =
     (opening_less x epoch lanes s) (may.2 name s e) (omega arith)
 opening_fits schemas x out e name s n may stands h = absurd (true≢false (sym n))
 
-token_up : (x : World) (e : Entry) (schemas : List Schema) (out : List ℕ) → MayFollow schemas x out e → x.token ≤ (world_after x e).token
-token_up x e schemas out m = grind (arith, after_token)
-
 pub fits_kept : FitsKept
 fits_kept schemas x out e may new lane apart steady all name t g = by t f.becomes where
   f : Stands x e name t
@@ -735,8 +625,7 @@ fits_kept schemas x out e may new lane apart steady all name t g = by t f.become
   by : (u : StackState) → BecomesBy x e name f.stack u → Fits (world_after x e) u
   by _ (own mine) = own_fits schemas x out apart e name f.stack mine may new lane (subst IsSteady f.known (known_steady x steady name)) fit
   by _ (at_opening n) = opening_fits schemas x out e name f.stack n may f.there fit
-  by _ (other n no_one) =
-      fits_less x (world_after x e) f.stack f.stack fit (less_self f.stack) (subst (λ ls. HasLanes ls f.stack) (sym (after_lanes x e n)) fit.lanes) (token_up x e schemas out may)
+  by _ (other n no_one) = grind (arith, fits_less, f, fit, less_self, after_lanes, after_token)
 
 pub each_is_written : EachIsWritten
 each_is_written schemas x out e may new lane apart steady all name t g =

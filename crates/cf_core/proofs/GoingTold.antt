@@ -1,15 +1,12 @@
 -- What a forward phase's entries and ledger say of each other is kept by each of its entries.
-use Rattle.std.proofs.Common.{◌≡◌, ◌⊎◌, inl, inr, ℕ, ◌+◌, ◌<◌, ◌≤◌, ◌==◌, Bool, true, false, ◌&&◌, nat_lt, List, ◌∷◌, ◌++◌, Option, Some, None, refl, sym, ap, subst, ◌∙◌, true≢false, map, filter, arith, []}
-use Rattle.cf_core.proofs.Words.{AsksOfNow, Begun, Call, Code, Data, Entry, Fits, Forward, Held, In, IsAdvancing, AsksForNow, IsFurther, IsReady, IsRefusedIn, IsRowOf, IsTold, LeftAt, MayIntend, Pending, Reply, Request, Response, Schema, Source, StackState, ToldBegins, ToldStays, World, after_last, anew, answered, answered_call, by_create, by_update, bytes_eq, call_under as call_of, closed, closing, current_at, doubts_in, doubts_of, effect_at, entries_with, goes_forward, has_token, heard, is_call, is_open_call, is_phase, is_restore, is_turn_or_opening, is_update, lines_of, list_any, moved, new_call, now_of, on_stack, one_more, option_map_or, pending_of, replied, reply_in, still_open, unmoved, was_answered_at}
-use Rattle.cf_core.proofs.Lemmas.{and_from, and_no, answered_left, any_filtered, any_mapped, any_no_more, any_of, bytes_eq-Decides, doubts_both, either_way, eq-eqb, eqb-true, found_in_more, found_one, found_still, in_changed, in_either, in_end, in_front, in_mapped, in_more, in_one, no_and, some_is, to_mapped}
+use Rattle.std.proofs.Common.{◌≡◌, ◌⊎◌, inl, inr, ℕ, ◌+◌, ◌<◌, ◌≤◌, ◌==◌, Bool, true, false, ◌&&◌, List, ◌∷◌, ◌++◌, Option, Some, None, refl, sym, ap, subst, ◌∙◌, true≢false, map, filter, arith, []}
+use Rattle.cf_core.proofs.Words.{AsksOfNow, Begun, Call, Code, Data, Entry, Fits, Forward, Held, In, IsAdvancing, AsksForNow, IsFurther, IsReady, IsRefusedIn, IsRowOf, IsTold, LeftAt, MayIntend, Pending, Reply, Request, Response, Schema, Source, StackState, ToldBegins, ToldStays, World, after_last, anew, answered, answered_call, bytes_eq, call_under as call_of, closing, current_at, doubts_in, doubts_of, effect_at, entries_with, goes_forward, has_token, heard, is_call, is_open_call, is_phase, is_restore, is_turn_or_opening, is_update, lines_of, list_any, moved, new_call, now_of, on_stack, option_map_or, pending_of, replied, reply_in, still_open, was_answered_at}
+use Rattle.cf_core.proofs.Lemmas.{and_no, answered_left, any_filtered, any_mapped, any_no_more, any_of, bytes_eq-Decides, doubts_both, eq-eqb, eqb-true, found_in_more, found_one, found_still, in_changed, in_either, in_end, in_front, in_mapped, in_more, in_one, no_and, some_is, to_mapped}
 use Rattle.cf_core.proofs.AdvSteps.{HasBegunBy, IsAhead, apart, asks, begins_ahead, begun_from, further_of, goes_by, hears, is_ahead, is_other, no_restore, none_kept_of, opens, ready_said, ready_stays, row_only, rows_same, was_open}
-use Rattle.cf_core.proofs.Rows.{answered_row, answered_same}
-use Rattle.cf_core.proofs.{Moving.written_is_to, TidyLedger.row_found, TidyOwn.new_called, TidyOwn.new_open}
+use Rattle.cf_core.proofs.Rows.{anew_same, answered_row, answered_row_same, answered_same, row_found}
+use Rattle.cf_core.proofs.{Moving.written_is_to, Cleanups.new_called, Cleanups.new_open}
 use Rattle.cf_effect.specs.declared.call.Settled.{Settled}
 use Rattle.std.specs.Prelude.{cond, is_some}
-
-same_code : (f k : Code) → Some (Settled.Failed f) ≡ Some (Settled.Failed k) → f ≡ k
-same_code f k e = cc
 
 -- one more that does not pass comes after the last that does
 after_more : {A : Type 0} (test : A → Bool) (xs : List A) (x : A) → test x ≡ false → after_last test (xs ++ x ∷ []) ≡ after_last test xs ++ x ∷ []
@@ -30,9 +27,6 @@ doubts_found s token c e = ap (λ o. option_map_or (λ d. d.doubts) o 0) e
 abbrev HasMore : Entry → StackState → StackState → Type 0
 HasMore e s t = (t.entries ≡ s.entries) ⊎ (t.entries ≡ s.entries ++ e ∷ [])
 
-old_in : (e : Entry) (s t : StackState) → HasMore e s t → (d : Entry) → In d s.entries → In d t.entries
-old_in e s t more d i = elim more [ inl q ↦ subst (In d) (sym q) i | inr q ↦ subst (In d) (sym q) (in_front d s.entries (e ∷ []) i) ]
-
 module _ (schemas : List Schema) (x : World) (s : StackState) (source : Source) (a : IsAdvancing schemas s source) (fits : Fits x s) (told : IsTold s)
     (t : StackState) (further : IsFurther s t source) (left : (q : List ℕ) → LeftAt s t q) where
   -- a row that was refused in the stack as it is now
@@ -52,17 +46,9 @@ module _ (schemas : List Schema) (x : World) (s : StackState) (source : Source) 
 
   told_next : (e : Entry) → IsToldNext e → IsTold t
   told_next e n = record {
-    no_phase = elim n.entries [
-      | inl q ↦ ap (list_any is_phase) q ∙ told.no_phase
-      | inr q ↦ ap (list_any is_phase) q ∙ any_no_more is_phase s.entries e n.no_phase ∙ told.no_phase
-    ];
-    called = λ r i.
-        let m = in_mapped reply_in t.entries r i in
-        let c : (d : Call) × (call_of r.token s ≡ Some d) = elim (new m.one m.of_list) [
-          | inl j ↦ told.called r (to_mapped reply_in s.entries m.one r j m.same)
-          | inr g ↦ n.called r (ap reply_in (sym g) ∙ m.same)
-        ] in
-        n.stays r.token c.0 c.1;
+    no_phase = grind (arith, any_no_more is_phase s.entries e n.no_phase, n.entries, told.no_phase);
+    called = λ r i. let m = in_mapped reply_in t.entries r i in
+        grind (arith, new m.one m.of_list, told.called r, to_mapped reply_in s.entries m.one r, n.called r, n.stays r.token);
     doubted = n.doubted;
     once = n.once;
     refused = λ c id props k i q g. let w = n.refused c id props k i q g in record {
@@ -78,14 +64,12 @@ module _ (schemas : List Schema) (x : World) (s : StackState) (source : Source) 
   refused_still : (e : Entry) → HasMore e s t → (c : Call) (id : List ℕ) (props : List (List ℕ × Data)) (k : Code) → In c s.ledger → c.request ≡ Request.Update id props
       → c.answer ≡ Some (Settled.Failed k) → Refused c id props k
   refused_still e more c id props k i u g =
-      let w = told.refused c id props k i u g in ((w.told.0, w.told.1, w.told.2, old_in e s t more _ w.told.3), w.ready, w.asks, by (left c.path)) where
+      let w = told.refused c id props k i u g in
+      ((w.told.0, w.told.1, w.told.2, grind (arith, in_front)), w.ready, w.asks, by (left c.path)) where
         by : LeftAt s t c.path → current_at c.path t.held ≡ current_at c.path s.held
-        by (unmoved j) = j.held
-        by (closed p j at none (by_create m same)) = same
-        by (closed p j at none (by_update h n m made was now same)) =
-            absurd (true≢false (sym (answered_all p.path s ∙ any_of (is_answered_at s.operation p.path) s.ledger c i
-            (and_from (c.number == s.operation) _ (eq-eqb c.number s.operation (a.calls c i).0) (and_from (bytes_eq p.path c.path) _ ((bytes_eq-Decides p.path c.path).1 at)
-            (and_from (is_update c.request) _ (ap is_update u) (ap is_some g))))) ∙ told.once p j m))
+        by l =
+            let in_row = a.calls c i in
+            grind (arith, answered_all, any_of (is_answered_at s.operation c.path) s.ledger c i, told.once, bytes_eq-Decides)
 
 -- An opening.
 module _ (schemas : List Schema) (x : World) (s : StackState) (source : Source) (a : IsAdvancing schemas s source) (fits : Fits x s) (told : IsTold s) (place : ℕ) where
@@ -95,8 +79,8 @@ module _ (schemas : List Schema) (x : World) (s : StackState) (source : Source) 
     entries = more s.entries;
     no_phase = refl;
     called = λ r f. let no : ⊥ = cc in absurd no;
-    stays = λ token c f. (anew c, row_found anew (λ d. refl) token s.ledger c f);
-    doubted = λ p i. let c = fits.rows p i in let none = doubts_found t p.token (anew c.0) (row_found anew (λ d. refl) p.token s.ledger c.0 c.1) in omega (arith, none);
+    stays = λ token c f. (anew c, row_found anew anew_same token s.ledger c f);
+    doubted = λ p i. let c = fits.rows p i in let none = doubts_found t p.token (anew c.0) (row_found anew anew_same p.token s.ledger c.0 c.1) in omega (arith, none);
     once = λ p i u. answered_all p.path t ∙ any_mapped anew (is_answered_at s.operation p.path) s.ledger ∙ sym (answered_all p.path s) ∙ told.once p i u;
     refused = λ c id props k i u g.
         let m = in_changed anew s.ledger c i in
@@ -108,8 +92,7 @@ module _ (schemas : List Schema) (x : World) (s : StackState) (source : Source) 
     t = (effect_at place (Entry.Opened epoch lanes) s).stack
 
     more : (es : List Entry) → (entries_with (Entry.Opened epoch lanes) es ≡ es) ⊎ (entries_with (Entry.Opened epoch lanes) es ≡ es ++ Entry.Opened epoch lanes ∷ [])
-    more [] = inl refl
-    more (e ∷ es) = inr refl
+    more v0 = grind arith
 
   -- A call goes out.
   module _ (number token : ℕ) (lane path : List ℕ) (r : Request) (name out : List ℕ) (may : MayIntend schemas name x out s Forward token lane path r) (lines : List (List ℕ)) where
@@ -131,10 +114,6 @@ module _ (schemas : List Schema) (x : World) (s : StackState) (source : Source) 
     none_open : list_any (has_token token) s.tokens ≡ false
     none_open = new_open x s fits token is_new
 
-    -- its path was not answered
-    answered_once : (k : Request) → r ≡ k → is_update k ≡ true → was_answered_at path s ≡ false
-    answered_once k e u = grind (arith, true≢false)
-
     intent_told : IsFurther s with_call source → ((p : List ℕ) → LeftAt s with_call p) → IsTold with_call
     intent_told further left = told_next schemas x s source a fits told with_call further left intent (record {
       entries = inr refl;
@@ -152,16 +131,14 @@ module _ (schemas : List Schema) (x : World) (s : StackState) (source : Source) 
           omega (arith, now, was, less, more))
           (let none = doubts_found with_call token row (found_in_more (is_call token) s.ledger row (eq-eqb token token refl) (new_called x s fits token is_new)) in omega (arith, none));
       once = in_more (λ p. is_update p.request ≡ true → was_answered_at p.path with_call ≡ false) q s.tokens (λ p i u. as_it_was p.path ∙ told.once p i u)
-          (λ u. as_it_was path ∙ answered_once r refl u);
+          (λ u. as_it_was path ∙ (grind (arith, true≢false)));
       refused = λ c id props k i u g. elim (in_either c s.ledger (row ∷ []) i) [
         | inl j ↦ refused_still schemas x s source a fits told with_call further left intent (inr refl) c id props k j u g
         | inr j ↦ let e = sym (ap (λ (d : Call). d.answer) (in_one c row j)) ∙ g in let no : ⊥ = cc in absurd no
       ];
     }) where
       as_it_was : (p : List ℕ) → was_answered_at p with_call ≡ was_answered_at p s
-      as_it_was p =
-          answered_all p with_call ∙ any_no_more (is_answered_at s.operation p) s.ledger row
-          (and_no (number == s.operation) _ (and_no (bytes_eq p path) _ (and_no (is_update r) _ refl))) ∙ sym (answered_all p s)
+      as_it_was p = search (answered_all, with_call, any_no_more, is_answered_at, row, and_no)
 
   -- A call is answered.
   module _ (number token before after : ℕ) (r : Reply) (p : Pending) (open_ : pending_of token s ≡ Some p) (hs ms : List Held) (lines : List (List ℕ)) where
@@ -192,13 +169,7 @@ module _ (schemas : List Schema) (x : World) (s : StackState) (source : Source) 
     abbrev t : StackState
     t = moved s hs ms (still_open token r s.tokens) (map (answered_row token r) s.ledger) (s.entries ++ outcome ∷ []) lines
 
-    token_kept : (c : Call) → (answered_row token r c).token ≡ c.token
-    token_kept c = either_way (λ d. d.token ≡ c.token) (is_call token c) (answered_call r c) c (answered_same r c).token refl
-
     -- the doubts of an open call
-    raised : (n : ℕ) → one_more n ≤ n + 1
-    raised n = either_way (λ m. m ≤ n + 1) (nat_lt n 3) (n + 1) n (omega arith) (omega arith)
-
     doubted_by : (k : ℕ) (c : Call) → k ≡ c.token → (b : Bool) → is_call token c ≡ b → (y : Reply)
         → (cond b (answered_call y c) c).doubts ≤ c.doubts + doubts_in k (Entry.Outcome number token y before after ∷ [])
     doubted_by k c e b n y = grind (arith, eq-eqb, eqb-true)
@@ -206,7 +177,7 @@ module _ (schemas : List Schema) (x : World) (s : StackState) (source : Source) 
     doubted_now : (k : Pending) → In k s.tokens → doubts_of k.token t ≤ doubts_in k.token (now_of t)
     doubted_now k i =
         let c = fits.rows k i in
-        let now = doubts_found t k.token (answered_row token r c.0) (row_found (answered_row token r) token_kept k.token s.ledger c.0 c.1) in
+        let now = doubts_found t k.token (answered_row token r c.0) (row_found (answered_row token r) (answered_row_same token r) k.token s.ledger c.0 c.1) in
         let was = doubts_found s k.token c.0 c.1 in
         let less = told.doubted k i in
         let more : doubts_in k.token (now_of t) ≡ doubts_in k.token (now_of s) + doubts_in k.token (outcome ∷ []) =
@@ -220,11 +191,7 @@ module _ (schemas : List Schema) (x : World) (s : StackState) (source : Source) 
         answered_all k.path t ∙ rows_same x s fits token p of_tokens named r (is_answered_at s.operation k.path) (λ c j e w. by c w apart_or)
         ∙ sym (answered_all k.path s) ∙ told.once k i u where
           by : (c : Call) → IsRowOf p c → (k.path ≡ p.path → ⊥) ⊎ (r ≡ Reply.Doubt) → is_answered_at s.operation k.path (answered_call r c) ≡ is_answered_at s.operation k.path c
-          by c w (inr e) = ap (λ y. is_answered_at s.operation k.path (answered_call y c)) e
-          by c w (inl n) =
-              let no = apart k.path p.path n in
-              and_no ((answered_call r c).number == s.operation) _ (no_and (bytes_eq k.path (answered_call r c).path) _ (ap (bytes_eq k.path) ((answered_same r c).path ∙ w.path) ∙ no))
-              ∙ sym (and_no (c.number == s.operation) _ (no_and (bytes_eq k.path c.path) _ (ap (bytes_eq k.path) w.path ∙ no)))
+          by c w why = grind (arith, apart, and_no, no_and, answered_same r c, w.path)
 
     module _ (further : IsFurther s t source) (left : (q : List ℕ) → LeftAt s t q) (failed : (f : Code) → r ≡ Reply.Failed f → hs ≡ s.held) where
       abbrev Is : Call → List ℕ → List (List ℕ × Data) → Code → Type 0
@@ -233,20 +200,16 @@ module _ (schemas : List Schema) (x : World) (s : StackState) (source : Source) 
       -- what is refused
       refused_row : (d : Call) (id : List ℕ) (props : List (List ℕ × Data)) (k : Code) → d ≡ of_row → token ≡ d.token → (b : Reply) → r ≡ b
           → (answered_call b d).request ≡ Request.Update id props → (answered_call b d).answer ≡ Some (Settled.Failed k) → Is (answered_call b d) id props k
-      refused_row d id props k m n (Reply.Success physical attrs) e u g = let no : ⊥ = cc in absurd no
-      refused_row d id props k m n Reply.Doubt e u g =
-          let some : ◌≡◌ {A = Option Settled} None (Some (Settled.Failed k)) = sym (ap (λ (c : Call). c.answer) m ∙ is_row.unanswered) ∙ g in
-          let no : ⊥ = cc in absurd no
       refused_row d id props k m n (Reply.Failed f) e u g =
-          let path : d.path ≡ p.path = ap (λ (c : Call). c.path) m ∙ is_row.path in
-          let asks : p.request ≡ Request.Update id props = sym (ap (λ (c : Call). c.request) m ∙ is_row.request) ∙ u in
-          let this : outcome ≡ Entry.Outcome number d.token (Reply.Failed k) before after =
-          λ i. Entry.Outcome number (n i) ((e ∙ ap (λ c. Reply.Failed c) (same_code f k g)) i) before after in (
+          let path : d.path ≡ p.path = let w = is_row.path in cc in
+          let asks : p.request ≡ Request.Update id props = let w = is_row.request in cc in
+          let this : outcome ≡ Entry.Outcome number d.token (Reply.Failed k) before after = let f : f ≡ k = cc in cc in (
             (number, before, after, subst (λ h. In h t.entries) this (in_end outcome s.entries)),
             subst (IsReady s) (sym path) (a.ready p of_tokens),
             subst (λ q. AsksOfNow s q id props) (sym path) (subst (AsksForNow s p.path) asks (a.asked p of_tokens)),
             ap (current_at d.path) (failed f e),
           )
+      refused_row d id props k m n b e u g = let un = is_row.unanswered in grind arith
 
       refused_now : (d : Call) (id : List ℕ) (props : List (List ℕ × Data)) (k : Code) → In d s.ledger → (b : Bool) → is_call token d ≡ b
           → (cond b (answered_call r d) d).request ≡ Request.Update id props → (cond b (answered_call r d) d).answer ≡ Some (Settled.Failed k)
@@ -259,7 +222,7 @@ module _ (schemas : List Schema) (x : World) (s : StackState) (source : Source) 
         entries = inr refl;
         no_phase = refl;
         called = λ q f. (of_row, ap (λ (y : Response). call_of y.token s) (sym (some_is (record { token = token; answer = r; before = before; after = after }) q f)) ∙ row_at);
-        stays = λ n c f. (answered_row token r c, row_found (answered_row token r) token_kept n s.ledger c f);
+        stays = λ n c f. (answered_row token r c, row_found (answered_row token r) (answered_row_same token r) n s.ledger c f);
         doubted = λ q i. doubted_now q (was_open x s fits token p of_tokens named r q i).0;
         once = λ q i u. let w = was_open x s fits token p of_tokens named r q i in once_now q w.0 w.1 u;
         refused = λ c id props k i u g.

@@ -1,13 +1,13 @@
 -- Each call that the forward phase intends is hidden by the change set of the operation; what it did not hide stays seen, and properties stay in order.
 use Rattle.std.proofs.Common.{arith, ◌≡◌, ◌∙◌, ℕ, List, ◌∷◌, ◌++◌, Bool, true, false, not, Option, Some, None, map, refl, sym, ap, subst, true≢false, ◌⊎◌, inl, inr, ◌+◌, ◌&&◌, filter, find, []}
-use Rattle.cf_core.proofs.Words.{AdvancingStays, AgreeAt, AreDescribed, AreSameThings, BeginsSeen, Begun, Call, Code, Data, Detail, Difference, Entry, Fits, RowsFound, Held, HeldAt, HeldLeft, HeldStatus, In, InOrder, IntendedIsHidden, IntendsForward, IntendsIn, IsAdvancing, IsAsBefore, IsDone, IsHidden, IsOrdered, IsOwn, IsSameThing, IsTo, StaysKnown, KeepsRest, Known, LeftAt, MayFollowIn, MayReplace, Member, NoneIsOrdered, OrderStays, Pending, Phase, Replace, Reply, Request, RestBeginsSeen, RestStaysSeen, Row, Same, Schema, Seen, SeenAt, SeesMore, Shape, Source, StackState, Stage, Status, Update, Wanted, WantsNew, WantsUpdate, Why, World, answered, ascends, at_path, beginning, begins_from, by_create, by_update, bytes_eq, changes_begun, changes_of, changing, closed, closing, completing, cond, current_at, deleting, difference_of, difference_to, effect_at, ending, evaluated_at, first_so, flaws_of, found, found_of, given_root, goes_forward, has_token, held_as, held_before_as, held_seen, hides_attrs, hides_id, intending, is_among, is_current_at, is_never, is_other_kind, is_property, is_restore, is_some, is_update, is_updated, is_wanted_at, keeping, known_of, known_props_from, known_stack, left_seen, list_any, made_of, marked, member_at, more as more_same, none as none_same, option_and_then, option_map_or, option_or, own_calls, pending_of, plan_by, plan_in, policy_details, property_details, props_asked, props_at, replied, resource_held, resources_in, resources_of, row_for, row_hides_attrs, row_hides_id, row_list, second_so, seen_in, seen_now, settled_in, shape_of, skipped_in, source_for, status_made, stopping, succeeded, terms_at, turned_effect, turning, unmoved, updates, updating, value_at, valued_in, wanted_at, wanted_of, was_updated, where_physical, whole_now, with_status, ◌==◌}
+use Rattle.cf_core.proofs.Words.{AdvancingStays, AgreeAt, AreDescribed, AreSameThings, BeginsSeen, Begun, Call, Code, Data, Detail, Entry, Fits, RowsFound, Held, HeldAt, HeldLeft, HeldStatus, In, InOrder, IntendedIsHidden, IntendsForward, IsAdvancing, IsAsBefore, IsDone, IsHidden, IsOrdered, IsOwn, IsSameThing, IsTo, StaysKnown, KeepsRest, Known, LeftAt, MayFollowIn, MayReplace, Member, NoneIsOrdered, OrderStays, Pending, Phase, Replace, Reply, Request, RestBeginsSeen, RestStaysSeen, Row, Schema, Seen, SeenAt, SeesMore, Shape, Source, StackState, Stage, Status, Update, Wanted, WantsNew, WantsUpdate, Why, World, answered, ascends, at_path, beginning, begins_from, bytes_eq, changes_begun, changes_of, changing, closed, closing, completing, cond, current_at, deleting, difference_of, difference_to, effect_at, ending, evaluated_at, first_so, flaws_of, found, found_of, given_root, goes_forward, has_token, held_as, held_before_as, held_seen, hides_attrs, hides_id, intending, is_among, is_current_at, is_never, is_other_kind, is_property, is_restore, is_some, is_update, is_updated, is_wanted_at, keeping, known_of, known_props_from, known_stack, left_seen, list_any, made_of, marked, member_at, more as more_same, none as none_same, option_and_then, option_map_or, own_calls, pending_of, plan_by, plan_in, policy_details, property_details, props_asked, props_at, replied, resource_held, resources_in, resources_of, row_for, row_hides_attrs, row_hides_id, row_list, second_so, seen_in, seen_now, settled_in, shape_of, skipped_in, source_for, status_made, stopping, succeeded, terms_at, turned_effect, turning, unmoved, updates, updating, value_at, valued_in, wanted_at, wanted_of, was_updated, whole_now, with_status, ◌==◌}
 use Rattle.cf_core.proofs.Lemmas.{Becomes, Props, PropsBecome, Valued, and_from, any_of, bytes_eq-Decides, changes_hide, each_map, either_way, eq-eqb, false_from, find-append, find_on, flawless, found_in, found_one, had_before, in_either, in_filter, in_front, in_kept, in_more, is_found, known_is, member_of, members_in, needs_suffice, no_change, no_detail, no_replacement, none_false, shape_is_held, shown, shown_at, some_of, unmapped, valued_become}
 use Rattle.cf_desired.specs.Whole.{Whole}
 use Rattle.std.specs.Prelude.{option_map}
-use Rattle.cf_desired.specs.declared.wanted.Evaluated.TheVariants.{Known as evaluated}
-use Rattle.cf_core.proofs.{HidSeen.rest_itself, HidSeen.compared_rest, HidSeen.same_found, HidSeen.shape_before, Moving.written_is_to, AdvSteps.is_ahead, AdvSteps.goes_by, AdvSteps.none_begins, AdvSteps.advancing_goes_on, AdvSteps.HasBegunBy, AdvSteps.begins_ahead, AdvSteps.seen_still, Statuses.intended_way, Statuses.kept_way, HidProps.said_in_order, TidyLists.from_changed}
+use Rattle.cf_core.proofs.{HidSeen.rest_itself, HidSeen.compared_rest, HidSeen.same_found, HidSeen.shape_before, Moving.written_is_to, AdvSteps.is_ahead, AdvSteps.goes_by, AdvSteps.none_begins, AdvSteps.advancing_goes_on, AdvSteps.HasBegunBy, AdvSteps.begins_ahead, AdvSteps.seen_still, Statuses.intended_way, Statuses.kept_way, HidProps.said_in_order, Cleanups.from_changed}
 use Rattle.cf_plan.proofs.RowsFound.{attrs_kept, found_there, hidden_less, id_kept, no_flaw_known, none_first, none_found, not_not, true_from, updates_one}
 use Rattle.cf_core.specs.Written as to
+use Rattle.cf_desired.specs.declared.wanted.Evaluated.TheVariants.{Known as evaluated}
 
 -- What the change set of an operation did not hide stays seen, whatever entry is written as it goes forward.
 
@@ -41,18 +41,13 @@ module _ (schemas : List Schema) (s : StackState) (source : Source) (a : IsAdvan
   abbrev Kept : Option SeenAt → Option SeenAt → Type 0
   Kept = KeptAt (hides_id rows_of path) (hides_attrs rows_of path)
 
-  seen_by : (made held : List Held) → value_at path (seen_in (made ++ held)) ≡ option_map shown (option_or (current_at path made) (current_at path held))
-  seen_by made held = shown_at path (made ++ held) ∙ ap (option_map shown) (find-append (is_current_at path) made held)
-
   -- the path of a create, where what was held is hidden, or of an update, whose attributes are hidden
   rest_closed : (p : Pending) (r : Request) → p.request ≡ r → IsHidden rows_of s path r → HeldLeft s t p path → Kept (value_at path (seen_in s.before)) (value_at path (seen_now t))
   rest_closed p (Request.Create kind props) e hid l =
       subst (λ o. Kept o (value_at path (seen_now t))) (sym (shown_at path s.before)) (by (current_at path s.before) (current_at path s.held) (same_at path s.before s.held a.held) refl) where
         by : (b h : Option Held) → SameAt b h → current_at path s.held ≡ h → Kept (option_map shown b) (value_at path (seen_now t))
         by b h w q = grind arith
-  rest_closed p (Request.Update id props) e hid (by_create n same) = absurd (true≢false (sym (ap is_update e) ∙ n))
-  rest_closed p (Request.Update id props) e hid (by_update g h u made was now same) = grind (arith, seen_by, shown)
-  rest_closed p (Request.Delete id) e hid l = absurd hid
+  rest_closed p v1 e hid l = grind (arith, shown, shown_at, find-append)
 
   rest_at : LeftAt s t path → Kept (value_at path (seen_in s.before)) (value_at path (seen_now t))
   rest_at (unmoved k) = subst (Kept (value_at path (seen_in s.before))) (sym (seen_still s t path k)) (a.rest path)
@@ -76,8 +71,7 @@ rest_begins schemas x out number stack k name s t w same f = by (begins_ahead w 
   by (Begun.Update c, from, b, q) =
       subst (λ u. (d : Source) × BeginsSeen schemas u d) q
       (source_for name s.number c, record { going = refl; no_flaw = b.no_flaw; no_clash = b.same_types; rest = rest_itself _ _ s (seen_in s.held) })
-  by (Begun.Delete paths, from, b, q) = absurd (true≢false (sym f ∙ ap (λ (u : StackState). goes_forward u.status) (sym q)))
-  by (Begun.Continue paths, from, b, q) = absurd (true≢false (sym f ∙ ap (λ (u : StackState). goes_forward u.status) (sym q)))
+  by v0 = grind arith
 
 -- Properties stay in the order of their names, whatever entry is written.
 
@@ -101,11 +95,8 @@ module _ (f : Held → Held) (keeps : (h : Held) → InOrder h → InOrder (f h)
   all_map : (hs : List Held) → All hs → All (map f hs)
   all_map hs h = each_map InOrder f hs (λ r i. keeps r (h r i))
 
-  all_changed : (id : List ℕ) (hs : List Held) → All hs → All (where_physical id f hs)
-  all_changed id hs h r i = grind (arith, from_changed)
-
   changing_ordered : (id : List ℕ) (s : StackState) → Ordered s → Ordered (changing id f s)
-  changing_ordered id s o = grind (arith, either_way, all_changed)
+  changing_ordered id s o = grind (arith, either_way, from_changed)
 
 module _ (s : StackState) (o : Ordered s) where
   deleting_ordered : (id : List ℕ) → Ordered (deleting id s)
@@ -153,38 +144,27 @@ turned_ordered : (p : Phase) (s : StackState) → Ordered s → Ordered (turned_
 turned_ordered Phase.Clean s o = completing_ordered (whole_now s) (turning Phase.Clean s) o
 turned_ordered p s o = o
 
-marked_ordered : (ps : List Pending) (h : Held) → InOrder h → InOrder (marked ps h)
-marked_ordered ps h k = grind arith
-
 stopping_ordered : (state : Status) (s : StackState) → Ordered s → Ordered (stopping state s)
 stopping_ordered state s o =
-    (all_map (marked s.tokens) (marked_ordered s.tokens) s.held o.0, o.1, all_map (marked s.tokens) (marked_ordered s.tokens) s.made o.2, o.3)
+    (all_map (marked s.tokens) (λ h k. grind arith) s.held o.0, o.1, all_map (marked s.tokens) (λ h k. grind arith) s.made o.2, o.3)
 
 ending_ordered : (state : Status) (s : StackState) → Ordered s → Ordered (ending state s).stack
 ending_ordered Status.CreateComplete s o = completing_ordered (whole_now s) s o
 ending_ordered Status.RollbackFailed s o = (all_both s.held s.made o.0 o.2, o.1, no_held, o.3)
 ending_ordered state s o = o
 
--- a beginning
-skipped_ordered : (paths : List (List ℕ)) (before : List Held) → All before → (h : Held) → InOrder h → InOrder (skipped_in paths before h)
-skipped_ordered paths before o h k = grind (arith, either_way, found_one)
-
 begun_ordered : (name : List ℕ) (number : ℕ) (k : Begun) (s : StackState) → Ordered s → Ordered (beginning name number k s)
 begun_ordered name number (Begun.Create source) s o = (o.0, o.0, no_held, o.3)
 begun_ordered name number (Begun.Update source) s o = (o.0, o.0, no_held, o.3)
 begun_ordered name number (Begun.Delete paths) s o = o
 begun_ordered name number (Begun.Continue paths) s o =
-    (all_map (skipped_in paths s.before) (skipped_ordered paths s.before o.1) s.held o.0, o.1, o.2, of_filter _ s.tokens o.3)
+    (all_map (skipped_in paths s.before) (λ h k. grind (arith, either_way, found_one)) s.held o.0, o.1, o.2, of_filter _ s.tokens o.3)
 
 module _ (schemas : List Schema) (x : World) (out : List ℕ) (name : List ℕ) (s : StackState) (o : Ordered s) where
-  -- what a call asks for
-  intends_ordered : (path : List ℕ) (stage : Stage) (r : Request) → IntendsIn stage schemas name x s path r → ascends (props_asked r) ≡ true
-  intends_ordered path stage r i = grind (arith, said_in_order)
-
   step_ordered : (stage : Stage) (e : Entry) → IsOwn s.operation e → MayFollowIn schemas name x out s stage e → Ordered (effect_at (x.place + 1) e s).stack
   step_ordered stage (Entry.Kept number path physical w) own may = keeping_ordered s o path physical w
   step_ordered stage (Entry.Intent number token lane path r) own may =
-      intending_ordered s o number (record { token = token; path = path; lane = lane; request = r }) (intends_ordered path stage r may.chosen)
+      intending_ordered s o number (record { token = token; path = path; lane = lane; request = r }) (grind (arith, said_in_order))
   step_ordered stage (Entry.Outcome number token a before after) own may = replied_ordered token a (pending_of token s) s refl o
   step_ordered stage (Entry.Phase number p c) own may = turned_ordered p s o
   step_ordered stage (Entry.Done number state failed) own may = ending_ordered state (stopping state s) (stopping_ordered state s o)
@@ -357,32 +337,23 @@ module _ (schemas : List Schema) (s : StackState) (source : Source) (a : IsAdvan
         (it.row (λ r. bytes_eq w.path r.path && row_hides_attrs r) (none_found (λ r. bytes_eq w.path r.path && row_hides_attrs r) f.rows held f.seen (subst (λ p. hides_attrs rows p ≡ false) it.at n)))) in
         (none_first is_property details (policy_details (held_as b) w) kept.0, kept.1)
 
-    abbrev Differs : Difference → Type 0
-    Differs d = difference_to schemas h props ≡ d
-
     difference_is : difference_to schemas h props ≡ option_map_or (λ g. difference_of g b.props props) (found it.member.kind schemas) Update
     difference_is = ap (λ ps. option_map_or (λ g. difference_of g ps props) (found h.kind schemas) Update) was_before.props ∙ ap (λ n. option_map_or (λ g. difference_of g b.props props) (found n schemas) Update) one_kind
 
     -- so no new resource is wanted
-    none_new : list_any (λ d. not (is_never d.recreation)) details ≡ false → Differs Replace ⊎ Differs MayReplace → ⊥
+    none_new : list_any (λ d. not (is_never d.recreation)) details ≡ false → WantsNew schemas s (Some h) props → ⊥
     none_new none r =
-        by_schema (found it.member.kind schemas) none (elim r [ inl d ↦ inl (sym difference_is ∙ d) | inr d ↦ inr (sym difference_is ∙ d) ])
+        by_schema (found it.member.kind schemas) none
+        (elim r [ inl d ↦ inl (sym difference_is ∙ d) | inr d ↦ inr (sym difference_is ∙ d.0) ])
       where
         by_schema : (o : Option Schema) → list_any (λ d. not (is_never d.recreation)) (property_details o b.props it.was) ≡ false
             → (option_map_or (λ g. difference_of g b.props props) o Update ≡ Replace) ⊎ (option_map_or (λ g. difference_of g b.props props) o Update ≡ MayReplace) → ⊥
         by_schema o n d = grind (arith, no_replacement, it, was)
 
-    -- and nothing is to be changed
-    none_changed : is_some (found h.kind schemas) ≡ true → ascends b.props ≡ true → ascends props ≡ true → list_any is_property details ≡ false → Differs Same
-    none_changed known old new k = grind (arith, difference_is, it, one_kind, was, no_change)
-
-    abbrev replaces : WantsNew schemas s (Some h) props → Differs Replace ⊎ Differs MayReplace
-    replaces n = elim n [ inl d ↦ inl d | inr d ↦ inr d.0 ]
-
     hides_new : WantsNew schemas s (Some h) props → (hides_id rows path ≡ true) × (hides_attrs rows path ≡ true)
     hides_new n = (
-      true_from (hides_id rows path) (λ t. none_new (open_id t) (replaces n)),
-      true_from (hides_attrs rows path) (λ t. none_new (no_detail (found it.member.kind schemas) b.props it.was (open_attrs t).0) (replaces n)),
+      true_from (hides_id rows path) (λ t. none_new (open_id t) n),
+      true_from (hides_attrs rows path) (λ t. none_new (no_detail (found it.member.kind schemas) b.props it.was (open_attrs t).0) n),
     )
 
     hides_change : is_some (found h.kind schemas) ≡ true → ((r : Held) → In r s.before → ascends r.props ≡ true) → ascends props ≡ true → WantsUpdate schemas s h props → hides_attrs rows path ≡ true
@@ -390,14 +361,12 @@ module _ (schemas : List Schema) (s : StackState) (source : Source) (a : IsAdvan
         let open_ = open_attrs t in
         elim either [
           | inl u ↦ true≢false (sym u ∙ was_before.unsure ∙ open_.1)
-          | inr d ↦ d (none_changed known (old b was.in_before) new open_.0)
+          | inr d ↦ d (grind (arith, difference_is, it, one_kind, was, no_change))
         ])
 
   module _ (name : List ℕ) (x : World) (fits : Fits x s) (order : IsOrdered s) (described : AreDescribed schemas x) (path : List ℕ) (undone : IsDone s path → ⊥) where
     known_kind : (h : Held) → In h s.held → is_some (found h.kind schemas) ≡ true
-    known_kind h i =
-        let l = fits.lanes.0 h (in_front h s.held s.made i) in
-        ap (λ n. is_some (found n schemas)) (sym l.3) ∙ described l.0 l.1
+    known_kind h i = let l = fits.lanes.0 h (in_front h s.held s.made i) in grind arith
 
     by_request : (r : Request) → IntendsForward schemas s path r → IsHidden rows s path r
     by_request (Request.Create k props) (e, wants) = λ h at. hides_new path k props e undone h at (subst (λ o. WantsNew schemas s o props) at wants)

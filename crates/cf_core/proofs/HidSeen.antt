@@ -1,26 +1,18 @@
 -- What a change set compares is what was held before, and so the shape stays as the operation goes forward.
-use Rattle.std.proofs.Common.{arith, ◌≡◌, ◌∙◌, ℕ, List, ◌∷◌, Bool, not, ◌&&◌, Option, Some, None, filter, map, option_map, refl, sym, []}
-use Rattle.cf_core.proofs.Words.{Held, HeldAt, IsAdvancing, KeepsRest, Schema, Seen, ShapeStaysAdvancing, Source, StackState, attrs_seen, bytes_eq, changes_begun, cond, current_at, held_as, held_before_as, held_seen, hides_attrs, hides_id, id_seen, resource_held, seen_held, seen_in, seen_now, shape_of, value_at}
-use Rattle.cf_core.proofs.Lemmas.{held_there, kept_self, shown, shown_at, stays_forward}
-
--- the first at a path, as it is compared, is the resource of the path
-found_with : (a b : Bool) (h : Held) (rest : List HeldAt) (path : List ℕ) (o : Option Held) → bytes_eq path h.path ≡ a → resource_held path rest ≡ option_map held_as o
-    → resource_held path (cond b (held_as h ∷ rest) rest) ≡ option_map held_as (cond (a && b) (Some h) o)
-found_with a b h rest path o e ih = grind arith
+use Rattle.std.proofs.Common.{arith, ◌≡◌, ◌∙◌, ℕ, List, ◌∷◌, Bool, not, filter, map, option_map, refl, sym, []}
+use Rattle.cf_core.proofs.Words.{Held, IsAdvancing, KeepsRest, Schema, Seen, ShapeStaysAdvancing, Source, StackState, attrs_seen, changes_begun, cond, current_at, held_as, held_before_as, held_seen, hides_attrs, hides_id, id_seen, resource_held, seen_in, seen_now, shape_of, value_at}
+use Rattle.cf_core.proofs.Lemmas.{held_there, kept_self, shown_at, stays_forward}
 
 map_if : (b : Bool) (h : Held) (hs : List Held) → map held_as (cond b (h ∷ hs) hs) ≡ cond b (held_as h ∷ map held_as hs) (map held_as hs)
 map_if b h hs = grind arith
 
 pub same_found : (path : List ℕ) (hs : List Held) → resource_held path (map held_as (filter (λ h. not h.superseded) hs)) ≡ option_map held_as (current_at path hs)
 same_found path [] = refl
-same_found path (h ∷ hs) = grind (arith, same_found path hs, map_if, found_with)
-
-as_shown : (o : Option Held) → option_map (λ h. seen_held h None) (option_map held_as o) ≡ option_map shown o
-as_shown o = grind arith
+same_found path (h ∷ hs) = grind (arith, same_found path hs, map_if)
 
 -- what is compared shows what was held before
 pub same_seen : (s : StackState) (path : List ℕ) → value_at path (held_seen (held_before_as s)) ≡ value_at path (seen_in s.before)
-same_seen s path = grind (arith, held_there, same_found, as_shown, shown_at)
+same_seen s path = grind (arith, held_there, same_found, shown_at)
 
 module _ (ids attrs : List ℕ → Bool) (s : StackState) where
   pub compared_rest : (now : Seen) → KeepsRest ids attrs (seen_in s.before) now → KeepsRest ids attrs (held_seen (held_before_as s)) now

@@ -1,14 +1,11 @@
 -- What is left over of two stacks has no known id in common.
-use Rattle.std.proofs.Common.{arith, ◌≡◌, ◌≢◌, ℕ, List, ◌&&◌, not, Bool, Option, true, false, Some, None, sym, ap, ◌∙◌, true≢false, refl}
-use Rattle.cf_core.proofs.Words.{AreOwn, Held, In, IsWritten, LeavesApart, LeavesApartStays, Leftover, StackState, Stranger, World, bytes_eq, has_known_id, has_leftover, held_in, known_stack, list_any, no_stack, role_found, role_on, stack_at, unknown_id, world_after}
+use Rattle.std.proofs.Common.{arith, ◌≡◌, ◌≢◌, ℕ, List, ◌&&◌, not, Option, true, Some, None, sym, ap, ◌∙◌, true≢false, refl}
+use Rattle.cf_core.proofs.Words.{AreOwn, Held, In, IsWritten, LeavesApart, LeavesApartStays, Leftover, StackState, Stranger, World, bytes_eq, has_known_id, has_leftover, held_in, known_stack, list_any, no_stack, role_on, stack_at, unknown_id, world_after}
 use Rattle.cf_core.proofs.Lemmas.{any_of}
 use Rattle.cf_agree.proofs.Words.{same_bytes}
 use Rattle.cf_core.proofs.MoreStacks.{FromLeft, was, of_held, unknown, from_left, left_move}
 use Rattle.cf_core.proofs.{KeepSound.stands_in, Moving.written_is_to, Stacks.blank_role, Stacks.held_role}
 use Rattle.std.specs.Option.{unwrap_or}
-
-stranger_left : (name : List ℕ) (o : Option Held) (b : Bool) → role_found name o b ≡ Stranger → b ≡ false
-stranger_left name o b e = grind arith
 
 module _ (x : World) (own : AreOwn x.stacks) where
   -- what one stack holds is nothing to another one
@@ -25,19 +22,15 @@ module _ (x : World) (own : AreOwn x.stacks) where
       let ls = (known_stack m x).leftovers in
       let there = any_of (λ (z : Leftover). bytes_eq i z.physical) ls l at (same_bytes i l.physical (sym same)) in
       let is : has_leftover i ls ≡ true = ap (λ b. b && list_any (λ (z : Leftover). bytes_eq i z.physical) ls) (ap (λ j. not (bytes_eq j unknown_id)) (sym same) ∙ known) ∙ there in
-      true≢false (sym is ∙ stranger_left m (held_in i (known_stack m x)) (has_leftover i ls) (held_apart n m d i h held))
-
-  not_unknown : (i : List ℕ) → not (bytes_eq i unknown_id) ≡ true → i ≡ unknown_id → ⊥
-  not_unknown i k e = true≢false (sym k ∙ ap not (same_bytes i unknown_id e))
+      true≢false (sym is ∙ (grind (arith, held_apart n m d i h held)))
 
   no_two : LeavesApart x → (n m : List ℕ) → n ≢ m → (l k : Leftover) → FromLeft (known_stack n x) l → FromLeft (known_stack m x) k → has_known_id l ≡ true
       → l.physical ≡ k.physical → ⊥
   no_two h n m d l k (was i) (was j) known same = h n m d l k i j known same
-  no_two h n m d l k (unknown e) from known same = not_unknown l.physical known e
-  no_two h n m d l k from (unknown e) known same = not_unknown l.physical known (same ∙ e)
+  no_two h n m d l k (unknown e) from known same = true≢false (sym known ∙ ap not (same_bytes l.physical unknown_id e))
+  no_two h n m d l k from (unknown e) known same = true≢false (sym known ∙ ap not (same_bytes l.physical unknown_id (same ∙ e)))
   no_two h n m d l k (was i) (of_held g held) known same = clash m n (λ e. d (sym e)) k.physical g l held i same known
-  no_two h n m d l k (of_held g held) (was j) known same =
-      clash n m d l.physical g k held j (sym same) (ap (λ z. not (bytes_eq z unknown_id)) (sym same) ∙ known)
+  no_two h n m d l k (of_held g held) (was j) known same = grind (arith, clash)
   no_two h n m d l k (of_held g held) (of_held f held_too) known same =
       held_role m (known_stack m x) l.physical f (ap (λ z. held_in z (known_stack m x)) same ∙ held_too) (held_apart n m d l.physical g held)
 

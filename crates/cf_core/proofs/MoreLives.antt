@@ -1,6 +1,6 @@
 -- In a life no two calls that are out are of one token, and no lane settles a token twice.
-use Rattle.std.proofs.Common.{◌≡◌, inl, inr, ℕ, ◌+◌, ◌≤◌, ◌==◌, List, [], ◌∷◌, ◌++◌, Bool, true, false, not, Option, Some, None, map, filter, refl, sym, ap, subst, ◌∙◌, true≢false, cond, arith}
-use Rattle.cf_core.proofs.Words.{Answer, Answered, CallEnd, CallMove, End, Entry, Event, FencedLane, Flying, In, IsSoundLife, Lane, LaneMove, LaneState, LateMove, Lease, LeasesOnce, LeasesOnceStays, Left, Life, Happens, MayLeave, Request, Schema, Settled, Settlement, SettlesBy, SettlesOnce, SettlesOnceStays, Stale, StartIsOnce, Whole, lane_acted, all_differ, appended, bytes_eq, changed, first_again, granted, has_token, here, is_call, is_in_flight, lane_at, late_by, lease_for, left_by, life_after, raised_to, repeated, replied_to, settled_late, settlement_of, there, tokens_out, with_lease, world_of}
+use Rattle.std.proofs.Common.{◌≡◌, ℕ, ◌≤◌, ◌==◌, List, [], ◌∷◌, ◌++◌, Bool, true, false, not, Option, Some, None, map, filter, refl, sym, ap, subst, ◌∙◌, true≢false, cond, arith}
+use Rattle.cf_core.proofs.Words.{Answer, Answered, CallEnd, CallMove, End, Entry, Event, FencedLane, Flying, In, IsSoundLife, Lane, LaneState, LateMove, Lease, LeasesOnce, LeasesOnceStays, Left, Life, Happens, MayLeave, Request, Schema, Settled, Settlement, SettlesBy, SettlesOnce, SettlesOnceStays, Stale, StartIsOnce, lane_acted, all_differ, appended, bytes_eq, changed, has_token, here, is_call, is_in_flight, lane_at, late_by, lease_for, left_by, life_after, raised_to, repeated, replied_to, settled_late, settlement_of, there, tokens_out, with_lease, world_of}
 use Rattle.cf_core.proofs.Lemmas.{any_of, differ_end, differ_less, eq-eqb, eqb-true, found_one, in_changed, into_mapped, is_found_in, ne_eqb, one_id}
 use Rattle.cf_agree.proofs.Words.{bytes_same}
 use Rattle.cf_core.proofs.{Outcomes.token_of, Settling.again_is, Settling.may_again, Stacks.stands_on}
@@ -11,15 +11,9 @@ tokens_replied : (t : ℕ) (r : CallEnd) (ls : List Lease) → map (λ (l : Leas
 tokens_replied t r [] = refl
 tokens_replied t r (l ∷ ls) = grind (arith, tokens_replied t r ls)
 
-abbrev differ : {A : Type 0} → (A → ℕ) → List A → Bool
-differ f xs = all_differ ◌==◌ (map f xs)
-
 -- an append changes neither lanes nor leases
 appended_same : (end : End) (e : Entry) (m : Life) → ((appended end e m).leases ≡ m.leases) × ((appended end e m).lanes ≡ m.lanes)
 appended_same end e m = grind arith
-
-above : (a n : ℕ) → a ≤ n → a ≡ n + 1 → ⊥
-above a n h e = omega arith
 
 module _ (schemas : List Schema) (l : Life) (h : IsSoundLife schemas l) (once : LeasesOnce l) where
   -- no call that is out has a token above the last one
@@ -35,15 +29,8 @@ module _ (schemas : List Schema) (l : Life) (h : IsSoundLife schemas l) (once : 
   less : (token : ℕ) → all_differ ◌==◌ (map (λ (k : Lease). k.token) (filter (λ (k : Lease). not (token == k.token)) l.leases)) ≡ true
   less token = differ_less ◌==◌ (λ (k : Lease). k.token) (λ (k : Lease). not (token == k.token)) l.leases once
 
-  grants : (end : End) (e : Entry) → Happens schemas l (life.Grant e end) → LeasesOnce (granted end e (appended end e l))
-  grants Whole (Entry.Intent number token lane path r) (running, is, may) =
-      let (n, s, stage, found, at, m) = may in
-      one_more (record { number = number; token = token; lane = lane; request = r; reply = None })
-      (λ k i same. above k.token (world_of l).token (below k i) (same ∙ m.next))
-  grants end e may = once
-
-  repeats : (token : ℕ) → Happens schemas l (life.Repeat token) → LeasesOnce (repeated (first_again token (world_of l).stacks) l)
-  repeats token (running, name, s, stage, p, m) =
+  leases_after : (ev : Event) → Happens schemas l ev → LeasesOnce (life_after l ev)
+  leases_after (life.Repeat token) (running, name, s, stage, p, m) =
       let is = may_again schemas name (world_of l) (tokens_out l) s stage p m.may in
       let (q, f) = is_found_in (has_token token) s.tokens p is.0 (eq-eqb token p.token (sym m.of_token)) in
       let home : is_in_flight (tokens_out l) token ≡ false = ap (is_in_flight (tokens_out l)) (sym m.of_token) ∙ is.1 in
@@ -52,21 +39,7 @@ module _ (schemas : List Schema) (l : Life) (h : IsSoundLife schemas l) (once : 
       (eq-eqb token k.token (token_of token s.tokens q f ∙ sym same))) ∙ home) in
       subst (λ o. LeasesOnce (repeated o l)) (sym (again_is (world_of l) name s (stands_on (world_of l) name s h.orderly.own m.stands) token q f))
       (one_more (lease_for s.operation q) none)
-
-  leases_after : (ev : Event) → Happens schemas l ev → LeasesOnce (life_after l ev)
-  leases_after (life.Opened epoch lanes end) may =
-      ap (λ ls. differ (λ (k : Lease). k.token) ls) (appended_same end (Entry.Opened epoch lanes) (record l { leases = []; is_open = true; has_granted = false; is_stopped = false })).0
-  leases_after (life.ChangeSet e end) may = ap (λ ls. differ (λ (k : Lease). k.token) ls) (appended_same end e l).0 ∙ once
-  leases_after (life.Begin e end) may = ap (λ ls. differ (λ (k : Lease). k.token) ls) (appended_same end e l).0 ∙ once
-  leases_after (life.Grant e end) may = grants end e may
-  leases_after (life.Settle token e end) may =
-      ap (λ ls. differ (λ (k : Lease). k.token) (filter (λ (k : Lease). not (token == k.token)) ls)) (appended_same end e l).0 ∙ less token
-  leases_after (life.Repeat token) may = repeats token may
-  leases_after (life.Act token reply left) may = grind (arith, tokens_replied)
-  leases_after (life.Raise name a moved before counted) may = grind arith
-  leases_after (life.Park token) may = less token
-  leases_after life.Crash may = refl
-  leases_after _ may = once
+  leases_after v0 may = grind (arith, appended_same, one_more, below, less, tokens_replied)
 
 pub leases_once_stays : LeasesOnceStays
 leases_once_stays schemas l ev may h once = leases_after schemas l h once ev may
@@ -87,18 +60,11 @@ settled_by : (name : List ℕ) (a b : LaneState) (token : ℕ) (r : Request) (s 
 settled_by name a b token r s once (Some earlier) e m = subst Once (sym m.1) once
 settled_by name a b token r s once None e m = subst Once (sym m.1) (settles_new a (record { token = token; request = r; settlement = s }) once e)
 
-moved_once : (name : List ℕ) (a b : LaneState) (token : ℕ) (r : Request) (x : Answer) → Once a → LaneMove name a b token r x → Once b
-moved_once name a b token r x once m = grind (arith, settled_by)
-
 abbrev OnceOn : FencedLane → Type 0
 OnceOn f = Once f.state
 
 called_once : (name : List ℕ) (f g : FencedLane) (epoch token : ℕ) (r : Request) (x : Answer) → OnceOn f → CallMove name f g epoch token r x → OnceOn g
-called_once name f g epoch token r (Answer.Success physical attrs) once (le, (b, m, e)) = subst OnceOn (sym e) (moved_once name f.state b token r (Answer.Success physical attrs) once m)
-called_once name f g epoch token r (Answer.Failed code) once (le, (b, m, e)) = subst OnceOn (sym e) (moved_once name f.state b token r (Answer.Failed code) once m)
-called_once name f g epoch token r Answer.Fault once (le, inl (b, m, e)) = subst OnceOn (sym e) (moved_once name f.state b token r Answer.Fault once m)
-called_once name f g epoch token r Answer.Fault once (le, inr (none, e)) = subst OnceOn (sym e) once
-called_once name f g epoch token r Answer.NoMemory once m = subst OnceOn (sym m) once
+called_once name f g epoch token r v6 once m = grind (arith, settled_by)
 
 late_once : (name : List ℕ) (f g : FencedLane) (place : ℕ) (s : Settlement) → OnceOn f → LateMove name f g place s → OnceOn (late_by place s f)
 late_once name f g place s once m =
@@ -136,8 +102,7 @@ module _ (schemas : List Schema) (l : Life) (h : IsSoundLife schemas l) (once : 
   same_lanes e k i = once k (subst (In k) e i)
 
   settles_after : (ev : Event) → Happens schemas l ev → SettlesOnce (life_after l ev)
-  settles_after (life.Opened epoch lanes end) may =
-      same_lanes (appended_same end (Entry.Opened epoch lanes) (record l { leases = []; is_open = true; has_granted = false; is_stopped = false })).1
+  settles_after (life.Opened epoch lanes end) may = grind (arith, same_lanes, appended_same)
   settles_after (life.ChangeSet e end) may = same_lanes (appended_same end e l).1
   settles_after (life.Begin e end) may = same_lanes (appended_same end e l).1
   settles_after (life.Grant e end) may = grind arith

@@ -1,6 +1,6 @@
 -- What completed is what was begun, what was given up is listed, and nothing is left over twice.
 use Rattle.std.proofs.Common.{arith, ◌≡◌, ◌⊎◌, inl, inr, ℕ, ◌+◌, List, [], ◌∷◌, ◌++◌, Option, Bool, true, false, not, ◌&&◌, Some, refl, sym, ap, subst, ◌∙◌, true≢false, map, filter, cond}
-use Rattle.cf_core.proofs.Words.{Begun, CompletesBegun, CompletesBegunStays, EndsAs, Entry, GivenUp, Held, In, IsOnce, IsTo, LeavesOnce, LeavesOnceStays, Leftover, ListsGivenUp, ListsGivenUpStays, MayFollowIn, Pending, Phase, Reply, Schema, StackState, Stage, Status, Why, World, all_differ, begins, bytes_eq, effect_of, ended_effect, given_up, has_completed, has_known_id, has_physical, held_in, here, intending, is_create_at, is_created, keeping, keeping_known, keeping_unknown, list_any, lost_create, opened, pending_of, replied, replying, resources_of, reviewed as reviewed_as, second_so, skipped_creates, step, there, turned, turned_effect, unknown_id}
+use Rattle.cf_core.proofs.Words.{Begun, CompletesBegun, CompletesBegunStays, Entry, GivenUp, Held, In, IsOnce, IsTo, LeavesOnce, LeavesOnceStays, Leftover, ListsGivenUp, ListsGivenUpStays, MayFollowIn, Pending, Phase, Reply, Schema, StackState, Stage, Why, World, all_differ, begins, bytes_eq, effect_of, given_up, has_completed, has_known_id, has_physical, held_in, here, intending, is_create_at, is_created, keeping, keeping_known, keeping_unknown, list_any, lost_create, opened, pending_of, replied, resources_of, second_so, skipped_creates, step, there, unknown_id}
 use Rattle.cf_core.proofs.Lemmas.{answered_left, any_of, append-nil, differ_end, filter-append, in_any, in_back, in_changed, in_either, in_filter, in_front, in_one, into_mapped, none_false}
 use Rattle.cf_agree.proofs.Words.{bytes_same, same_bytes}
 use Rattle.cf_core.proofs.{BeginEvents.held_of, Moving.written_is_to}
@@ -48,12 +48,6 @@ module _ (s : StackState) where
     by false c true e = (record { status = refl; source = refl; going = refl }, known (record { path = path; physical = physical; why = w }) e refl refl)
     by false c false e = (record { status = refl; source = refl; going = refl }, same refl refl)
 
-  turned_left : (p : Phase) → LeftBy (turned_effect p s).stack
-  turned_left p = grind arith
-
-  ended_left : (state : Status) → LeftBy (ended_effect state s).stack
-  ended_left state = grind arith
-
   begun_left : (number : ℕ) (name : List ℕ) (k : Begun) → LeftBy (effect_of (Entry.Begin number name k) s).stack
   begun_left number name (Begun.Continue paths) =
       let ps = skipped_creates paths s.tokens in
@@ -66,8 +60,8 @@ module _ (s : StackState) where
   entry_left (Entry.Kept number path physical w) = (kept path physical w).1
   entry_left (Entry.Intent number token lane path r) = (intended number (record { token = token; path = path; lane = lane; request = r })).1
   entry_left (Entry.Outcome number token a before after) = (replied_rest token a (pending_of token s)).1
-  entry_left (Entry.Phase number p c) = turned_left p
-  entry_left (Entry.Done number state failed) = ended_left state
+  entry_left (Entry.Phase number p c) = grind arith
+  entry_left (Entry.Done number state failed) = grind arith
   entry_left _ = same refl refl
 
   module _ {schemas : List Schema} {x : World} {out name : List ℕ} where
@@ -127,8 +121,7 @@ module _ (s : StackState) (once : IsOnce s) (h : LeavesOnce s) where
 
   one_more : (l : Leftover) (b : Bool) → list_any (has_physical l.physical) (resources_of s) ≡ true → has_known_id l ≡ b
       → all_differ bytes_eq (map (λ (z : Leftover). z.physical) (filter has_known_id s.leftovers ++ cond b (l ∷ []) [])) ≡ true
-  one_more l true held is = differ_end bytes_eq (λ (z : Leftover). z.physical) (filter has_known_id s.leftovers) l (λ m i. not_left l m held is i) h
-  one_more l false held is = ap (λ ls. all_differ bytes_eq (map (λ (z : Leftover). z.physical) ls)) (append-nil (filter has_known_id s.leftovers)) ∙ h
+  one_more l v1 held is = grind (arith, differ_end, not_left, append-nil)
 
   abbrev differ : List Leftover → Bool
   differ ls = all_differ bytes_eq (map (λ (z : Leftover). z.physical) ls)
@@ -147,36 +140,13 @@ module _ (schemas : List Schema) (x : World) (out name : List ℕ) (s : StackSta
   rest : (t : StackState) → IsRest s t → CompletesBegun t
   rest t r e = r.source ∙ h (ap has_completed (sym r.status) ∙ e) ∙ sym r.going
 
-  never_back : (a : Status) → (has_completed (turned a Phase.Back) ≡ false) × (has_completed (turned a Phase.BackClean) ≡ false)
-  never_back a = grind arith
-
-  turned_completes : (p : Phase) → CompletesBegun (turned_effect p s).stack
-  turned_completes p e = grind (arith, true≢false)
-
-  ended_completes : (a b : Status) → s.status ≡ a → EndsAs schemas name x s a b → CompletesBegun (ended_effect b s).stack
-  ended_completes a b at k e = grind (arith, true≢false)
-
-  begun_completes : (number : ℕ) (k : Begun) → CompletesBegun (effect_of (Entry.Begin number name k) s).stack
-  begun_completes number k e = grind (arith, true≢false)
-
-  reviewed_completes : (a : Status) → has_completed (reviewed_as a) ≡ true → has_completed a ≡ true
-  reviewed_completes a e = grind arith
-
   step_completes : (e : Entry) (stage : Stage) → MayFollowIn schemas name x out s stage e → CompletesBegun (effect_of e s).stack
-  step_completes (Entry.Opened epoch lanes) stage may = h
-  step_completes (Entry.Begin number n k) stage never = absurd never
-  step_completes (Entry.Kept number path physical w) stage may = rest (keeping path physical w s) (kept s path physical w).0
-  step_completes (Entry.Intent number token lane path r) stage may =
-      let p : Pending = record { token = token; path = path; lane = lane; request = r } in rest (intending number p s) (intended s number p).0
-  step_completes (Entry.Outcome number token a before after) stage may = rest (replying token a s) (replied_rest s token a (pending_of token s)).0
-  step_completes (Entry.Phase number p c) stage may = turned_completes p
-  step_completes (Entry.Done number state failed) stage may = ended_completes s.status state refl may.2
-  step_completes (Entry.ChangeSet number n source rows outputs) stage never = absurd never
+  step_completes v0 stage may = grind (arith, rest, kept, intended, replied_rest)
 
   completes : {e : Entry} {t : StackState} → IsTo schemas x out name s e t → CompletesBegun t
   completes {e} (step stage at is_own may) = step_completes e stage may
-  completes (begins k from by) = begun_completes (x.operation + 1) k
-  completes (reviewed number source rows outputs from) = λ e. h (reviewed_completes s.status e)
+  completes (begins k from by) = λ e. grind (arith, true≢false)
+  completes (reviewed number source rows outputs from) = λ e. h (grind arith)
   completes (opened epoch lanes) = h
   completes other = h
 

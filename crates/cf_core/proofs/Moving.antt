@@ -1,6 +1,6 @@
 -- What an entry that is written is to a stack, and what it does to its operation.
-use Rattle.std.proofs.Common.{arith, ◌≡◌, ℕ, true, List, Option, Some, None, refl, ap, ◌+◌, sym, subst, ◌∙◌, true≢false, ◌||◌, ◌==◌, ◌≢◌}
-use Rattle.cf_core.proofs.Words.{BecomesBy, BeginsBy, Begun, Entry, IsMove, IsOwn, IsTo, IsWritten, MayBegin, MayFollow, MayFollowIn, MayFollowOn, Phase, Schema, StackState, Stage, World, WrittenIsTo, at_opening as by_opening, begins as is_begun, begins_from, creates_from, effect_at, ends as is_end, first_so, is_going, is_in_progress, is_opening, known_stack, opened as is_opened_to, other as by_other, own as by_own, stack_for, stack_of_operation, stage_of, stays as is_still, step as is_step, turns as is_turn, updates_from}
+use Rattle.std.proofs.Common.{arith, ◌≡◌, ℕ, List, Option, Some, None, refl, ap, ◌+◌, sym, subst, true≢false, ◌||◌}
+use Rattle.cf_core.proofs.Words.{BecomesBy, BeginsBy, Begun, Entry, IsMove, IsOwn, IsTo, IsWritten, MayBegin, MayFollow, MayFollowIn, MayFollowOn, Phase, Schema, StackState, Stage, World, WrittenIsTo, at_opening as by_opening, begins as is_begun, begins_from, creates_from, effect_at, ends as is_end, known_stack, opened as is_opened_to, other as by_other, own as by_own, stack_for, stack_of_operation, stage_of, stays as is_still, step as is_step, turns as is_turn, updates_from}
 use Rattle.cf_core.proofs.Lemmas.{eqb-true, found_passes, some_is}
 use Rattle.cf_core.specs.Moving.{begins as is_beginning, other as is_elsewhere, reviewed as is_review}
 use Rattle.cf_core.specs.Written.{reviewed as is_reviewed, other as is_other}
@@ -19,17 +19,14 @@ module _ (schemas : List Schema) (x : World) (out : List ℕ) (name : List ℕ) 
 
   -- the operation of the number is the one of the stack
   pub numbered_so : (number : ℕ) → stack_of_operation number x ≡ Some (name, s) → number ≡ s.operation
-  numbered_so number going =
-      sym (eqb-true s.operation number (first_so (s.operation == number) (is_in_progress s.status) (found_passes (λ (t : List ℕ × StackState). is_going number t.1) x.stacks (name, s) going)))
+  numbered_so number going = grind (arith, eqb-true, found_passes)
 
   -- a step of the operation in progress is one in the stage of its stack
   abbrev pub InStage : Entry → Type 0
   InStage e = (stage : Stage) × (stage_of s.status ≡ Some stage) × MayFollowIn schemas name x out s stage e
 
   pub in_stage : (e : Entry) (number : ℕ) → stack_of_operation number x ≡ Some (name, s) → MayFollowOn schemas number x out e → InStage e
-  in_stage e number going (n, t, stage, found, at, may) =
-      subst (λ (q : List ℕ × StackState). (stage : Stage) × (stage_of q.1.status ≡ Some stage) × MayFollowIn schemas q.0 x out q.1 stage e)
-      (some_is (n, t) (name, s) (sym found ∙ going)) (stage, at, may)
+  in_stage e number going (n, t, stage, found, at, may) = grind (arith, some_is)
 
   stepping : (e : Entry) (number : ℕ) → ((m : ℕ) → number ≡ m → IsOwn m e) → stack_of_operation number x ≡ Some (name, s) → MayFollowOn schemas number x out e
       → IsTo schemas x out name s e (becoming e)
@@ -50,9 +47,7 @@ module _ (schemas : List Schema) (x : World) (out : List ℕ) (name : List ℕ) 
   -- by what the entry is
   pub to_own : (e : Entry) → known_stack name x ≡ s → stack_for e x ≡ Some (name, s) → MayFollow schemas x out e → IsTo schemas x out name s e (becoming e)
   to_own (Entry.Opened epoch lanes) was q may = is_opened_to epoch lanes
-  to_own (Entry.Begin number n k) was q may =
-      subst (λ (o : List ℕ). MayBegin schemas x number o k → IsTo schemas x out name s (Entry.Begin number o k) (becoming (Entry.Begin number o k)))
-      (sym (beginning_name number n k q)) (beginning_so number k was) may
+  to_own (Entry.Begin number n k) was q may = grind (arith, beginning_name, beginning_so)
   to_own (Entry.ChangeSet number n source rows outputs) was q (next, from, accepted) =
       let pair : ◌≡◌ {A = List ℕ × StackState} (n, known_stack n x) (name, s) = some_is (n, known_stack n x) (name, s) q in
       subst (λ (o : List ℕ). IsTo schemas x out name s (Entry.ChangeSet number o source rows outputs) (becoming (Entry.ChangeSet number o source rows outputs)))
@@ -60,13 +55,10 @@ module _ (schemas : List Schema) (x : World) (out : List ℕ) (name : List ℕ) 
       (is_reviewed number source rows outputs (subst (λ (p : List ℕ × StackState). IsTrue (creates_from p.1.status || updates_from p.1.status)) pair from))
   to_own e was q may = stepping e _ (λ m o. o) q may
 
-  to_all : (e : Entry) → is_opening e ≡ true → IsTo schemas x out name s e (becoming e)
-  to_all (Entry.Opened epoch lanes) q = is_opened_to epoch lanes
-  to_all e q = absurd (true≢false (sym q))
-
   becomes_to : (e : Entry) (t : StackState) → known_stack name x ≡ s → MayFollow schemas x out e → BecomesBy x e name s t → IsTo schemas x out name s e t
   becomes_to e t was may (by_own q) = to_own e was q may
-  becomes_to e t was may (by_opening q) = to_all e q
+  becomes_to (Entry.Opened epoch lanes) t was may (by_opening q) = is_opened_to epoch lanes
+  becomes_to e t was may (by_opening q) = absurd (true≢false (sym q))
   becomes_to e t was may (by_other q none) = is_other
 
 pub written_is_to : WrittenIsTo
@@ -91,13 +83,10 @@ module _ (schemas : List Schema) (x : World) (out : List ℕ) (name : List ℕ) 
   of_it (Entry.Done number state failed) was q may = let m = in_stage schemas x out name s (Entry.Done number state failed) number q may in is_end number state failed m.0 q m.1 m.2
   of_it e was q may = converted (λ o. o) (to_own schemas x out name s e was q may)
 
-  of_all : (e : Entry) → is_opening e ≡ true → IsMove schemas x out name s e (effect_at (x.place + 1) e s).stack
-  of_all (Entry.Opened epoch lanes) q = is_still refl
-  of_all e q = absurd (true≢false (sym q))
-
   moves : (e : Entry) (t : StackState) → known_stack name x ≡ s → MayFollow schemas x out e → BecomesBy x e name s t → IsMove schemas x out name s e t
   moves e t was may (by_own q) = of_it e was q may
-  moves e t was may (by_opening q) = of_all e q
+  moves (Entry.Opened epoch lanes) t was may (by_opening q) = is_still refl
+  moves e t was may (by_opening q) = absurd (true≢false (sym q))
   moves e t was may (by_other q none) = is_elsewhere
 
 pub written_moves : {schemas : List Schema} {x : World} {out : List ℕ} {e : Entry} {name : List ℕ} {s t : StackState} → IsWritten schemas x out e name s t

@@ -1,15 +1,15 @@
 -- What answers, phases, ends and what is kept move of the account; and the entries of an operation take nothing of another stack.
 use Rattle.std.proofs.Common.{◌≡◌, ℕ, true, List, [], ◌∷◌, ◌++◌, Option, Some, None, refl, ap, ◌+◌, false, Bool, ◌&&◌, sym, subst, ◌∙◌, true≢false, ◌||◌, ◌==◌, ◌≢◌, ◌⊎◌, inl, inr, find, unwrap_or, map, arith, not, filter}
-use Rattle.cf_core.proofs.Words.{AreOwn, AreTied, Cause, Code, Dict, DoneMoves, DoubtMoves, Entry, GivenUp, Held, HeldStatus, In, IsLocal, IsOfLane, IsOnce, IsSettledCall, KeptMay, KeptMoves, Lanes, Leftover as Left, Made, StacksByName, OneStack, Open, OutcomeMoves, Pending, Phase, PhaseMoves, Reply, Request, Resource, Role, Settled, Settlement, StackState, Status, Stranger, Thing, Why, World, account_of, after_last, all_differ, answered as answer_on, ascends, bytes_eq, called_of, change_first, changed_by, changing, closing, completing, creates, current_at, dropped, effect_at, ended_effect, ending, for_good, has_leftover, has_physical, has_token, heard, held_in, here, is_at_rest, is_create, is_create_at, is_created, is_done_entry, is_in_progress, is_on, is_opening, is_opened_since, is_restore, keeping, keeping_known, keeping_unknown, lane_of, leaves as gives_up, list_any, lost_in, lost_on, made_of, made_thing, marked, named_by, lane_types, names_id, of_leftover, on_stack as stays_listed, open_as, open_in, open_on, opening_heard, option_map_or, option_or, replied, resources_of, rested, resting_in, role_after, role_found, role_in, role_on, role_or, set_thing, settled_in, status_made, still_open, stopping, terms_at, there as there_, thing_of, told_in, turned_effect, turning, unknown_id, updating, value_at, where_physical, whole_now, with_status, without, without_token}
-use Rattle.cf_core.proofs.Lemmas.{answered_left, any_of, at_other, at_same, bytes_or, differ_end, differ_less, differ_rest, each_map, eq-eqb, eqb-true, find-append, found_else, found_one, if_other, if_same, list_any-append, ne_eqb, none_false, none_passes, number_or, or_right, other_bytes, tail_ascends, unmapped, value_below}
+use Rattle.cf_core.proofs.Words.{AreOwn, AreTied, Cause, Code, Dict, DoneMoves, DoubtMoves, Entry, GivenUp, Held, HeldStatus, In, IsLocal, IsOfLane, IsOnce, IsSettledCall, KeptMay, KeptMoves, Lanes, Leftover as Left, StacksByName, OneStack, Open, OutcomeMoves, Pending, Phase, PhaseMoves, Reply, Request, Resource, Role, Settled, Settlement, StackState, Status, Stranger, Thing, Why, World, account_of, after_last, all_differ, answered as answer_on, ascends, bytes_eq, called_of, change_first, changed_by, changing, closing, completing, current_at, dropped, effect_at, ended_effect, ending, for_good, has_leftover, has_physical, has_token, heard, held_in, here, is_at_rest, is_create_at, is_created, is_done_entry, is_in_progress, is_on, is_opening, is_opened_since, is_restore, keeping, keeping_known, keeping_unknown, lane_of, leaves as gives_up, list_any, lost_in, lost_on, made_of, made_thing, marked, named_by, lane_types, names_id, of_leftover, on_stack as stays_listed, open_as, open_in, open_on, opening_heard, option_map_or, option_or, replied, resources_of, rested, resting_in, role_after, role_found, role_in, role_on, set_thing, settled_in, status_made, stopping, terms_at, there as there_, thing_of, told_in, turned_effect, turning, unknown_id, updating, value_at, where_physical, whole_now, with_status, without, without_token}
+use Rattle.cf_core.proofs.Lemmas.{answered_left, any_of, at_other, at_same, bytes_or, differ_end, differ_less, differ_rest, each_map, eq-eqb, eqb-true, find-append, found_else, found_one, if_other, if_same, list_any-append, map-id, ne_eqb, none_false, none_passes, number_or, or_right, other_bytes, tail_ascends, unmapped, value_below}
 use Rattle.cf_agree.proofs.Words.{bytes_same, same_bytes}
-use Rattle.cf_agree.specs.{Account.Role.Leftover, Base.change_of, Moves.stays}
+use Rattle.cf_agree.specs.{Account.Role.Leftover, Moves.stays}
 use Rattle.cf_desired.specs.Whole.{Whole}
 use Rattle.cf_effect.proofs.Closed.{any_found}
 use Rattle.cf_plan.specs.Lanes.{written_in}
 use Rattle.std.proofs.lemmas.Bool.Decides.{nat_tests}
 use Rattle.std.specs.{Option.option_map, Prelude.cond}
-use Rattle.cf_core.proofs.Stacks.{IsOnOne, Sends, call_same, held_role, is_working, lost_same, map_none, not_resting, on_bool, on_one, on_option, once_here, open_closed, open_not_own, open_now, open_own, open_same, option_end, or_none, or_resource, or_some, or_stranger, resting_same, role_alike, role_here, role_made, role_now, role_own, role_same, role_set, role_stranger, role_taken, same_account, told_more, told_same}
+use Rattle.cf_core.proofs.Stacks.{IsOnOne, Sends, call_same, held_role, is_working, lost_same, map_none, not_resting, on_bool, on_one, on_option, once_here, open_closed, open_not_own, open_now, open_of, open_same, option_end, or_none, or_resource, or_some, or_stranger, resting_same, role_alike, role_of, role_alone, role_own, role_same, role_stranger, same_account, told_more, told_same}
 use Rattle.cf_core.proofs.Statuses.{turned_goes, turned_status}
 use Rattle.cf_agree.specs.Account as account
 
@@ -34,10 +34,6 @@ other_without i j (h ∷ hs) e = let ih = other_without i j hs e in let a = byte
 pub found_same : (name : List ℕ) (o q : Option Held) (b : Bool) → option_map (thing_of name) o ≡ option_map (thing_of name) q → role_found name o b ≡ role_found name q b
 found_same name o q b e = grind arith
 
-pub or_thing : (name : List ℕ) (o o' q q' : Option Held) → option_map (thing_of name) o ≡ option_map (thing_of name) o' → option_map (thing_of name) q ≡ option_map (thing_of name) q'
-    → option_map (thing_of name) (option_or o q) ≡ option_map (thing_of name) (option_or o' q')
-or_thing name o o' q q' e k = grind arith
-
 -- what an answer leaves of a stack but for its resources
 pub record Leaves (s s' : StackState) : Type 0 where
   pub tokens : s'.tokens ≡ s.tokens
@@ -51,8 +47,7 @@ module _ (j : List ℕ) (change : Held → Held) (keeps : (h : Held) → (change
   same_at hs = first_same (has_physical j) change (λ h. ap (bytes_eq j) (keeps h)) hs
 
   other_at : (i : List ℕ) (hs : List Held) → i ≢ j → under i (where_physical j change hs) ≡ under i hs
-  other_at i hs n =
-      found_else (has_physical j) change (has_physical i) (λ h. ap (bytes_eq i) (keeps h)) hs (λ h k e. other_bytes i h.physical (λ m. n (m ∙ sym (bytes_same j h.physical e))))
+  other_at i hs n = grind (arith, found_else, other_bytes)
 
   pub changing_other : (i : List ℕ) → i ≢ j → held_in i (changing j change s) ≡ held_in i s
   changing_other i n = let h = other_at i s.held n in let m = other_at i s.made n in grind arith
@@ -60,28 +55,23 @@ module _ (j : List ℕ) (change : Held → Held) (keeps : (h : Held) → (change
   pub changing_same : held_in j (changing j change s) ≡ option_map change (held_in j s)
   changing_same = let h = same_at s.held in let m = same_at s.made in let a = any_found (has_physical j) s.held in grind arith
 
--- a change that leaves what is told of a resource
-abbrev pub restated : HeldStatus → Held → Held
-restated state h = record h { status = state }
-
 status_thing : (name j i : List ℕ) (state : HeldStatus) (s : StackState) → option_map (thing_of name) (held_in i (with_status j state s)) ≡ option_map (thing_of name) (held_in i s)
 status_thing name j i state s = elim (bytes_or i j) [
-  | inl e ↦
-      ap (λ k. option_map (thing_of name) (held_in k (with_status j state s))) e ∙ ap (option_map (thing_of name)) (changing_same j (restated state) (λ h. refl) s)
-      ∙ fused (held_in j s) ∙ ap (λ k. option_map (thing_of name) (held_in k s)) (sym e)
-  | inr e ↦ ap (option_map (thing_of name)) (changing_other j (restated state) (λ h. refl) s i e)
-] where
-  fused : (o : Option Held) → option_map (thing_of name) (option_map (restated state) o) ≡ option_map (thing_of name) o
-  fused o = grind arith
+  | inl e ↦ grind (arith, changing_same)
+  | inr e ↦ ap (option_map (thing_of name)) (changing_other j (λ h. record h { status = state }) (λ h. refl) s i e)
+]
 
 pub leaves : (b : Bool) (path : List ℕ) (r : Request) (a : Reply) (s : StackState) → Leaves s (answer_on b path r a s)
 leaves b path r a s = grind (arith, answered_left)
 
--- what an answer for good does to the role of an id on the stack
+-- what an answer for good does to the role of an id on the stack, as to that of all: it makes the id, or is of a call that names the id,
+-- or leaves its role
 pub data OnStack (name : List ℕ) (o : Open) (r : Request) (y : Settlement) (s s' : StackState) (i : List ℕ) : Type 0 where
-  made : (k : List ℕ) (q v : Dict) → r ≡ Request.Create k q → y ≡ Settlement.Success i v → (held_in i s ≡ None → role_on name s' i ≡ Resource (made_thing o k q v)) → ((f : List ℕ → Role) → role_after o r y f i ≡ Resource (made_thing o k q v)) → OnStack name o r y s s' i
-  set : (q v : Dict) → named_by r ≡ Some i → ((h : Held) → held_in i s ≡ Some h → role_on name s' i ≡ set_thing q v (Resource (thing_of name h))) → ((f : List ℕ → Role) → role_after o r y f i ≡ set_thing q v (f i)) → OnStack name o r y s s' i
-  taken : named_by r ≡ Some i → (has_leftover i s.leftovers ≡ false → role_on name s' i ≡ Stranger) → ((f : List ℕ → Role) → role_after o r y f i ≡ Stranger) → OnStack name o r y s s' i
+  made : (k : List ℕ) (q v : Dict) → r ≡ Request.Create k q → y ≡ Settlement.Success i v
+      → (held_in i s ≡ None → (f : List ℕ → Role) → role_on name s' i ≡ role_after o r y f i) → OnStack name o r y s s' i
+  named : named_by r ≡ Some i
+      → ((h : Held) → held_in i s ≡ Some h → has_leftover i s.leftovers ≡ false → (f : List ℕ → Role) → f i ≡ Resource (thing_of name h)
+      → role_on name s' i ≡ role_after o r y f i) → OnStack name o r y s s' i
   kept : role_on name s' i ≡ role_on name s i → ((f : List ℕ → Role) → role_after o r y f i ≡ f i) → OnStack name o r y s s' i
 
 module _ (name : List ℕ) (b : Bool) (p : Pending) (s : StackState) where
@@ -95,7 +85,7 @@ module _ (name : List ℕ) (b : Bool) (p : Pending) (s : StackState) where
   deleted : (j : List ℕ) (y : Settlement) (s' : StackState) → ((f : List ℕ → Role) (i : List ℕ) → role_after o (Request.Delete j) y f i ≡ cond (bytes_eq i j) Stranger (f i)) → s'.held ≡ without j s.held → s'.made ≡ without j s.made → s'.leftovers ≡ s.leftovers
       → (i : List ℕ) → OnStack name o (Request.Delete j) y s s' i
   deleted j y s' turns hd md lf i = elim (bytes_or i j) [
-    | inl e ↦ taken (ap Some (sym e)) (λ l. cc (gone_without i j s.held e, gone_without i j s.made e)) (λ f. turns f i ∙ if_same i j Stranger (f i) e)
+    | inl e ↦ named (ap Some (sym e)) (λ h k l f g. cc (gone_without i j s.held e, gone_without i j s.made e, turns f i, if_same i j Stranger (f i) e))
     | inr e ↦ kept (cc (other_without i j s.held e, other_without i j s.made e)) (λ f. turns f i ∙ if_other i j Stranger (f i) e)
   ]
 
@@ -110,8 +100,7 @@ module _ (name : List ℕ) (b : Bool) (p : Pending) (s : StackState) where
       let both = find-append (has_physical i) s.made (one ∷ []) in
       elim (bytes_or i j) [
         | inl n ↦ made k q v refl (ap (λ z. Settlement.Success z v) (sym n))
-            (λ h. let z = or_none (under i s.held) (under i s.made) h in cc (both, z.0, z.1, if_same i j (Some one) None n))
-            (λ f. if_same i j (Resource (made_thing o k q v)) (f i) n)
+            (λ h f. let z = or_none (under i s.held) (under i s.made) h in cc (both, z.0, z.1, if_same i j (Some one) None n, if_same i j (Resource (made_thing o k q v)) (f i) n))
         | inr n ↦ kept (cc (both, if_other i j (Some one) None n, option_end (under i s.made))) (λ f. if_other i j (Resource (made_thing o k q v)) (f i) n)
       ]
 
@@ -119,23 +108,21 @@ module _ (name : List ℕ) (b : Bool) (p : Pending) (s : StackState) where
   updated j q j' v i =
       let left = (leaves b p.path (Request.Update j q) (Reply.Success j' v) s).leftovers in
       elim (bytes_or i j) [
-        | inl n ↦ set q v (ap Some (sym n)) (λ h k. cc (changing_same j (updating q v) (λ h. refl) s)) (λ f. if_same i j (set_thing q v (f i)) (f i) n)
+        | inl n ↦ named (ap Some (sym n)) (λ h k l f g. cc (changing_same j (updating q v) (λ h. refl) s, if_same i j (set_thing q v (f i)) (f i) n))
         | inr n ↦ kept (cc (left, changing_other j (updating q v) (λ h. refl) s i n)) (λ f. if_other i j (set_thing q v (f i)) (f i) n)
       ]
 
   pub on_stack : (r : Request) (a : Reply) (y : Settlement) → for_good a ≡ Some y → (i : List ℕ) → OnStack name o r y s (after r a) i
   on_stack r a y e i = subst (λ z. OnStack name o r z s (after r a) i) (ap (λ o. unwrap_or o y) e) (by r a e) where
     by_restore : (d : Bool) (j : List ℕ) → option_map (thing_of name) (held_in i (cond d (with_status j HeldStatus.UpdateFailed s) s)) ≡ option_map (thing_of name) (held_in i s)
-    by_restore true j = status_thing name j i HeldStatus.UpdateFailed s
-    by_restore false j = refl
+    by_restore v0 j = grind (arith, status_thing)
 
     by : (r : Request) (a : Reply) → for_good a ≡ Some y → OnStack name o r (unwrap_or (for_good a) y) s (after r a) i
     by (Request.Create k q) (Reply.Success j v) e = created k q j v i
     by (Request.Update j q) (Reply.Success j' v) e = updated j q j' v i
     by (Request.Delete j) (Reply.Success j' v) e = deleted j (Settlement.Success j' v) (after (Request.Delete j) (Reply.Success j' v)) (λ f i. refl) refl refl refl i
     by (Request.Create k q) (Reply.Failed c) e = kept refl (λ f. refl)
-    by (Request.Update j q) (Reply.Failed c) e =
-        refused i (Request.Update j q) (Settlement.Failed c) (after (Request.Update j q) (Reply.Failed c)) (by_restore b j) (leaves b p.path (Request.Update j q) (Reply.Failed c) s).leftovers (λ f. refl)
+    by (Request.Update j q) (Reply.Failed c) e = grind (arith, refused, by_restore, leaves, Request.Update, Reply.Failed)
     by (Request.Delete j) (Reply.Failed Code.NotFound) e = deleted j (Settlement.Failed Code.NotFound) (after (Request.Delete j) (Reply.Failed Code.NotFound)) (λ f i. refl) refl refl refl i
     by (Request.Delete j) (Reply.Failed c) e =
         refused i (Request.Delete j) (Settlement.Failed c) (after (Request.Delete j) (Reply.Failed c)) (status_thing name j i HeldStatus.DeleteFailed s) (leaves b p.path (Request.Delete j) (Reply.Failed c) s).leftovers (λ f. refl)
@@ -151,9 +138,6 @@ pub token_left : (t u : ℕ) (ps : List Pending) → t ≢ u → find (has_token
 token_left t u [] e = refl
 token_left t u (p ∷ ps) e = let ih = token_left t u ps e in grind (arith, nat_tests)
 
-pub closes : (token : ℕ) (a : Reply) (y : Settlement) (ps : List Pending) → for_good a ≡ Some y → still_open token a ps ≡ without_token token ps
-closes token a y ps e = grind arith
-
 -- what a stack of which an id is a stranger, or a resource, holds of it
 pub found_none : (name : List ℕ) (o : Option Held) (b : Bool) → role_found name o b ≡ Stranger → (o ≡ None) × (b ≡ false)
 found_none name o b e = grind arith
@@ -161,69 +145,10 @@ found_none name o b e = grind arith
 pub found_some : (name : List ℕ) (o : Option Held) (b : Bool) (r : Thing) → role_found name o b ≡ Resource r → (h : Held) × (o ≡ Some h) × (thing_of name h ≡ r)
 found_some name o b r e = grind arith
 
-effect_made : (r : Request) (y : Settlement) (i k : List ℕ) (q v : Dict) → r ≡ Request.Create k q → y ≡ Settlement.Success i v → change_of r y ≡ Made i k q v
-effect_made r y i k q v e f = cc
-
 -- the stack of a call that is open, answered so
 abbrev pub answered_stack : ℕ → ℕ → ℕ → Reply → ℕ → ℕ → Pending → StackState → StackState
 answered_stack place number token answer before after p s =
     (heard place (Entry.Outcome number token answer before after) s (stays_listed (closing token answer (answer_on (is_restore token s) p.path p.request answer s)))).stack
-
-pub outcome_moves : OutcomeMoves
-outcome_moves es x w name s p y number token answer before after own at_work found good tied is =
-    let e : Entry = Entry.Outcome number token answer before after in
-    let left : Leaves s s1 = leaves (is_restore token s) p.path p.request answer s in
-    let tokens : sf.tokens ≡ without_token token s.tokens = closes token answer y.settlement s1.tokens good ∙ ap (without_token token) left.tokens in
-    let opens : (t : ℕ) → open_in z.stacks t ≡ cond (t == token) None (open_in x.stacks t) = λ t. elim (number_or t token) [
-      | inl k ↦ (let (a, b) = at.unshared.tokens token p found in
-          open_closed x.stacks _ name s sf f t (cc) (cc (tokens, token_gone t token s.tokens k)) (cc) ∙ sym (at_same t token None (open_in x.stacks t) k))
-      | inr k ↦ open_same x.stacks _ name s sf f t (cc (tokens, token_left t token s.tokens k)) ∙ sym (at_other t token None (open_in x.stacks t) k)
-    ] in
-    let tells : (t : ℕ) → told_in (es ++ e ∷ []) t ≡ cond (t == token) (Some y.settlement) (told_in es t) =
-    λ t. grind (arith, told_more, number_or, option_end, at_other) in
-    same_account _ _ roles opens (λ t. lost_same x.stacks z.stacks name s sf f t (ap (λ gs. list_any (λ (g : GivenUp). t == g.token) gs) left.abandoned))
-    (λ t. call_same es e t refl) tells (λ n. resting_same x.stacks z.stacks name s sf f n (not_resting s sf (is_working number x name s at_work) left.status))
-    (λ n. ap (λ ls. lane_types ls n) at.lanes) at.token at.epoch
-  where
-    z : World
-    z = changed_by (x.place + 1) (Entry.Outcome number token answer before after) x
-
-    s1 : StackState
-    s1 = answer_on (is_restore token s) p.path p.request answer s
-
-    sf : StackState
-    sf = answered_stack (x.place + 1) number token answer before after p s
-
-    o : Open
-    o = open_as name p
-
-    at : IsOnOne x z name s sf
-    at = subst (λ q. IsOnOne x z name s (heard (x.place + 1) (Entry.Outcome number token answer before after) s (stays_listed (replied token answer q s))).stack) found
-        (on_one (Entry.Outcome number token answer before after) x name s own refl at_work)
-
-    f : OneStack x.stacks z.stacks name s sf
-    f = at.one
-
-    request_is : o.request ≡ y.request
-    request_is = (((tied.ties).settled_calls o.lane token y is.1).written (called_of o) ((tied.books).calls token o is.0)).1
-
-    roles : (i : List ℕ) → role_in z.stacks i ≡ role_after o p.request y.settlement (role_in x.stacks) i
-    roles i = go (on_stack name (is_restore token s) p s p.request answer y.settlement good i) where
-      go : OnStack name o p.request y.settlement s s1 i → role_in z.stacks i ≡ role_after o p.request y.settlement (role_in x.stacks) i
-      go (made k q v re ye on turns) =
-          let st = ((tied.ties).born token o y i k q v is (effect_made y.request y.settlement i k q v (sym request_is ∙ re) ye)).1 in
-          let z = (role_stranger x.stacks _ name s sf f i st).1 in
-          role_made x.stacks _ name s sf f i (made_thing o k q v) st (on (found_none name (held_in i s) (has_leftover i s.leftovers) z).0) ∙ sym (turns (role_in x.stacks))
-      go (set q v nm on turns) =
-          let (r, k, n, m) = (tied.books).named token o i is.0 nm in
-          let (h, hk, hr) = found_some name (held_in i s) (has_leftover i s.leftovers) r (role_own x.stacks _ name s sf f i r k n).1 in
-          role_set x.stacks _ name s sf f i r (record (thing_of name h) { props = q; attrs = v; sure = true }) k n (on h hk)
-          ∙ sym (turns (role_in x.stacks) ∙ ap (set_thing q v) (k ∙ ap Resource (sym hr)))
-      go (taken nm on turns) =
-          let (r, k, n, m) = (tied.books).named token o i is.0 nm in
-          let (h, hk, hr) = found_some name (held_in i s) (has_leftover i s.leftovers) r (role_own x.stacks _ name s sf f i r k n).1 in
-          role_taken x.stacks _ name s sf f i r k n (on (at.unshared.left i h hk)) (at.unshared.roles i h hk).1 ∙ sym (turns (role_in x.stacks))
-      go (kept k turns) = role_same x.stacks _ name s sf f i k ∙ sym (turns (role_in x.stacks))
 
 -- a doubt leaves a stack's lists as they were
 pub record IsAlike (s s' : StackState) : Type 0 where
@@ -234,11 +159,8 @@ pub record IsAlike (s s' : StackState) : Type 0 where
   pub abandoned : s'.abandoned ≡ s.abandoned
   pub status : s'.status ≡ s.status
 
-doubted : (b : Bool) (path : List ℕ) (r : Request) (s : StackState) → answer_on b path r Reply.Doubt s ≡ s
-doubted b path r s = grind arith
-
 pub in_doubt : (place number token before after : ℕ) (s : StackState) → IsAlike s (effect_at place (Entry.Outcome number token Reply.Doubt before after) s).stack
-in_doubt place number token before after s = grind (arith, doubted)
+in_doubt place number token before after s = grind arith
 
 -- Where what the account tells is found: the stack of a resource and of an open call.
 
@@ -320,18 +242,15 @@ settled_leaves whole s = record { physical = λ h. grind arith; thing = λ n h. 
 pub marked_leaves : (ps : List Pending) → LeavesThing (marked ps)
 marked_leaves ps = record { physical = λ h. grind arith; thing = λ n h. grind arith }
 
-map_id : (hs : List Held) → map (λ (h : Held). h) hs ≡ hs
-map_id [] = refl
-map_id (h ∷ hs) = ap (λ xs. h ∷ xs) (map_id hs)
-
 -- what an end and a later phase leave of a stack's calls and of what is told of it
 quiet_ending : (state : Status) (s : StackState) → Quiet s (ending state s).stack
 quiet_ending Status.CreateComplete s = quiet_joined (settled_in (whole_now s) s) s (completing (whole_now s) s) (settled_leaves (whole_now s) s) refl refl refl refl refl
-quiet_ending Status.RollbackFailed s = quiet_joined (λ h. h) s (ending Status.RollbackFailed s).stack (record { physical = λ h. refl; thing = λ n h. refl }) (sym (map_id (resources_of s))) refl refl refl refl
+quiet_ending Status.RollbackFailed s = quiet_joined (λ h. h) s (ending Status.RollbackFailed s).stack
+    (record { physical = λ h. refl; thing = λ n h. refl }) (sym (map-id (resources_of s))) refl refl refl refl
 quiet_ending state s = record { things = λ n i. refl; leftovers = refl; tokens = refl; abandoned = refl }
 
 quiet_stopping : (state : Status) (s : StackState) → Quiet s (stopping state s)
-quiet_stopping state s = grind (arith, or_thing, found_mapped, marked_leaves)
+quiet_stopping state s = grind (arith, found_mapped, marked_leaves)
 
 quiet_turned : (p : Phase) (s : StackState) → Quiet s (turned_effect p s).stack
 quiet_turned Phase.Clean s =
@@ -363,9 +282,6 @@ abbrev pub gives : (Pending → Bool) → Option Pending → Bool
 gives test None = false
 gives test (Some p) = test p && is_created p
 
-pub creates_same : (r : Request) → creates r ≡ is_create r
-creates_same r = grind arith
-
 none_found : (t : ℕ) (test : Pending → Bool) (ps : List Pending) → list_any (λ u. t == u) (map (λ (p : Pending). p.token) ps) ≡ false → find (has_token t) (filter test ps) ≡ None
 none_found t test [] h = refl
 none_found t test (q ∷ ps) h = let ih = none_found t test ps in grind arith
@@ -387,12 +303,12 @@ module _ (es : List Entry) (x y : World) (e : Entry) (name : List ℕ) (s s' : S
   -- but for which stacks rest
   pub quiet_moves : Quiet s s' → account_of (es ++ e ∷ []) y ≡ rested (resting_in y.stacks) (account_of es x)
   quiet_moves q =
-      same_account _ _ (λ i. role_same x.stacks y.stacks name s s' at.one i (cc (q.leftovers, found_same name (held_in i s') (held_in i s) (has_leftover i s.leftovers) (q.things name i))))
-      (λ u. open_same x.stacks y.stacks name s s' at.one u (cc q.tokens)) (λ u. lost_same x.stacks y.stacks name s s' at.one u (cc q.abandoned))
+      same_account _ _ (λ i. role_same at.one i (cc (q.leftovers, found_same name (held_in i s') (held_in i s) (has_leftover i s.leftovers) (q.things name i))))
+      (λ u. open_same at.one u (cc q.tokens)) (λ u. lost_same at.one u (cc q.abandoned))
       (λ u. call_same es e u no_call) tells (λ n. refl) (λ n. cc at.lanes) at.token at.epoch
 
   pub quiet_rests : Quiet s s' → is_at_rest s' ≡ is_at_rest s → account_of (es ++ e ∷ []) y ≡ account_of es x
-  quiet_rests q rest = quiet_moves q ∙ ap (λ r. rested r (account_of es x)) (λ k n. resting_same x.stacks y.stacks name s s' at.one n rest k)
+  quiet_rests q rest = quiet_moves q ∙ ap (λ r. rested r (account_of es x)) (λ k n. resting_same at.one n rest k)
 
   -- some of its calls are given up
   module _
@@ -407,32 +323,19 @@ module _ (es : List Entry) (x y : World) (e : Entry) (name : List ℕ) (s s' : S
     open_after : (t : ℕ) → open_on name s' t ≡ option_map (open_as name) (unless test (find (has_token t) s.tokens))
     open_after t = cc (tokens, find_unless t test s.tokens once)
 
-    pub open_is : (t : ℕ) (p : Pending) → find (has_token t) s.tokens ≡ Some p → open_in x.stacks t ≡ Some (open_as name p)
-    open_is t p k = open_own x.stacks y.stacks name s s' f t (open_as name p) ((at.unshared).tokens t p k).0 (cc)
-
     opens : (t : ℕ) → open_in y.stacks t ≡ cond (drops t) None (open_in x.stacks t)
     opens t =
         let still : (test_none : unless test (find (has_token t) s.tokens) ≡ find (has_token t) s.tokens) → open_in y.stacks t ≡ open_in x.stacks t =
-        λ e. open_same x.stacks y.stacks name s s' f t (open_after t ∙ ap (option_map (open_as name)) e) in
+        λ e. open_same f t (open_after t ∙ ap (option_map (open_as name)) e) in
         on_option (find (has_token t) s.tokens) (λ k. cc (still (cc)))
-        (λ p k. on_bool (test p) (λ e. let none = (at.unshared).tokens t p k in cc (open_now x.stacks y.stacks name s s' f t, open_after t, none.0, none.1)) (λ e. cc (still (cc))))
-
-    -- the stacks with this one in its place
-    itself : OneStack x.stacks (f.front ++ (name, s) ∷ f.back) name s s
-    itself = record { front = f.front; back = f.back; was = f.was; now = refl; before = f.before; behind = f.behind }
-
-    round : (a b c d : Bool) → (a || ((b || c) || d)) ≡ ((a || (b || d)) || c)
-    round a b c d = grind arith
-
-    lost_more : (t : ℕ) (c : Bool) → lost_on s' t ≡ (lost_on s t || c) → lost_in y.stacks t ≡ (lost_in x.stacks t || c)
-    lost_more t c k = grind (arith, list_any-append)
+        (λ p k. on_bool (test p) (λ e. let none = (at.unshared).tokens t p k in cc (open_now f t, open_after t, none.0, none.1)) (λ e. cc (still (cc))))
 
     given : (t : ℕ) → gives test (find (has_token t) s.tokens) ≡ (drops t && account.is_open_create (open_in x.stacks t))
-    given t = on_option (find (has_token t) s.tokens) (λ k. cc) (λ p k. cc (creates_same p.request, open_is t p k))
+    given t = on_option (find (has_token t) s.tokens) (λ k. cc) (λ p k. grind (arith, open_of at t p k))
 
     pub dropped_moves : account_of (es ++ e ∷ []) y ≡ rested (resting_in y.stacks) (dropped drops (role_in y.stacks) (account_of es x))
     dropped_moves =
-        same_account _ _ (λ i. refl) opens (λ t. lost_more t (gives test (find (has_token t) s.tokens)) (lost_too t) ∙ ap (λ b. lost_in x.stacks t || b) (given t))
+        same_account _ _ (λ i. refl) opens (λ t. (grind (arith, list_any-append, lost_too t)) ∙ ap (λ b. lost_in x.stacks t || b) (given t))
         (λ t. call_same es e t no_call) tells (λ n. refl) (λ n. cc at.lanes) at.token at.epoch
 
 pub doubt_moves : DoubtMoves
@@ -455,9 +358,7 @@ phase_moves es x name s number p cause own found =
 -- nothing stands behind an end
 nothing_behind : (es : List Entry) (e : Entry) → is_done_entry e ≡ true → after_last is_done_entry (es ++ e ∷ []) ≡ []
 nothing_behind [] e k = cc
-nothing_behind (d ∷ es) e k = cc (list_any-append is_done_entry es (e ∷ []), any_one (list_any is_done_entry es), nothing_behind es e k) where
-  any_one : (b : Bool) → (b || (is_done_entry e || false)) ≡ true
-  any_one b = grind arith
+nothing_behind (d ∷ es) e k = grind (arith, list_any-append is_done_entry es (e ∷ []), nothing_behind es e k)
 
 ended_entries : (state : Status) (s : StackState) → (ended_effect state s).stack.entries ≡ s.entries
 ended_entries state s = grind arith
@@ -483,9 +384,6 @@ names_is i (Some j) e = ap Some (sym (bytes_same i j e))
 names_id_is : (i : List ℕ) (r : Request) → named_by r ≡ Some i → option_map_or (bytes_eq i) (named_by r) false ≡ true
 names_id_is i r e = ap (λ o. option_map_or (bytes_eq i) o false) e ∙ same_bytes i i refl
 
-no_create : (r : Request) (i : List ℕ) → named_by r ≡ Some i → creates r ≡ false
-no_create r i e = grind arith
-
 pub kept_may : KeptMay
 kept_may a w i r b e = record {
   roles = λ j. elim (bytes_or j i) [
@@ -493,8 +391,7 @@ kept_may a w i r b e = record {
     | inr k ↦ stays (if_other j i Leftover (a.role j) k)
   ];
   calls = λ t o k d. of_leftover i (names_is i (named_by o.request) (ap (names_id i) (sym k) ∙ d)) (if_same i i Leftover (a.role i) refl);
-  left = λ t o j k d n. let (q, x, y, z) = b.named t o j k n in
-      (q, if_other j i Leftover (a.role j) (λ m. true≢false (sym (names_id_is i o.request (n ∙ ap Some m)) ∙ ap (names_id i) (sym k) ∙ d)) ∙ x);
+  left = grind (arith, if_other, names_id_is, b.named, a.role);
 }
 
 -- an id with a colon isn't the unknown one, nor no id
@@ -532,31 +429,31 @@ kept_moves es x name s h number path physical w own at_work held b =
     let e : Entry = Entry.Kept number path physical w in
     let y : World = changed_by (x.place + 1) (Entry.Kept number path physical w) x in
     let s' : StackState = kept_stack (x.place + 1) number path physical w s in
-    let at0 : IsOnOne x y name s (effect_at (x.place + 1) (Entry.Kept number path physical w) s).stack =
-    on_one (Entry.Kept number path physical w) x name s own refl at_work in
-    let is_here : role_in x.stacks physical ≡ Resource (thing_of name h) = role_here x.stacks y.stacks name s (effect_at (x.place + 1) (Entry.Kept number path physical w) s).stack at0.one physical (thing_of name h) (at0.unshared.roles physical h held).0
-    (ap (λ o. role_found name o (has_leftover physical s.leftovers)) held) in
+    let at0 = on_one (Entry.Kept number path physical w) x name s own refl at_work in
+    let is_here = role_of at0 physical h held in
     let of_lane : IsOfLane (lane_of physical) physical = (b.homes physical (thing_of name h) is_here).0 in
     let at : IsOnOne x y name s s' =
     subst (λ q. IsOnOne x y name s q) (keeps_known (x.place + 1) number path physical w s h held (lane_of physical) of_lane) at0 in
     let f : OneStack x.stacks y.stacks name s s' = at.one in
-    let once : all_differ ◌==◌ (map (λ (p : Pending). p.token) s.tokens) ≡ true = (once_here x.stacks y.stacks name s s' f own).tokens in
+    let once : all_differ ◌==◌ (map (λ (p : Pending). p.token) s.tokens) ≡ true = (once_here f own).tokens in
     let more : (i : List ℕ) → has_leftover i s'.leftovers ≡ (not (bytes_eq i unknown_id) && (list_any (λ (l : Left). bytes_eq i l.physical) s.leftovers || bytes_eq i physical)) =
     λ i. left_more i s.leftovers (record { path = path; physical = physical; why = w }) in
     let or_false : (c : Bool) → (c || false) ≡ c = λ c. grind arith in
-    let left_over : (o q : Option Held) (u c d : Bool) → o ≡ None → q ≡ None → u ≡ false → d ≡ true → role_found name (option_or o q) (not u && (c || d)) ≡ Leftover =
-    λ o q u c d none gone j m. grind arith in
-    let now : (a b r : Role) → a ≡ Stranger → r ≡ Leftover → role_or a (role_or r b) ≡ Leftover = λ a b r none k. cc in
+    let left_over : role_on name s' physical ≡ Leftover =
+    grind (
+      arith,
+      more physical,
+      gone_without physical physical s.held refl,
+      gone_without physical physical s.made refl,
+      other_bytes physical unknown_id (no_unknown (lane_of physical) physical of_lane),
+      same_bytes physical physical refl,
+    ) in
     let roles : (i : List ℕ) → role_in y.stacks i ≡ cond (bytes_eq i physical) Leftover (role_in x.stacks i) = λ i. elim (bytes_or i physical) [
-      | inr n ↦ role_same x.stacks y.stacks name s s' f i
+      | inr n ↦ role_same f i
           (cc (more i, other_bytes i physical n, or_false (list_any (λ (l : Left). bytes_eq i l.physical) s.leftovers), other_without i physical s.held n, other_without i physical s.made n))
           ∙ sym (if_other i physical Leftover (role_in x.stacks i) n)
-      | inl n ↦ ap (role_in y.stacks) n ∙ role_now x.stacks y.stacks name s s' f physical
-          ∙ now (role_in f.front physical) (role_in f.back physical) (role_on name s' physical) (at.unshared.roles physical h held).0
-          (ap (role_found name (held_in physical s')) (more physical)
-          ∙ left_over (find (has_physical physical) s'.held) (find (has_physical physical) s'.made) (bytes_eq physical unknown_id) (list_any (λ (l : Left). bytes_eq physical l.physical) s.leftovers) (bytes_eq physical physical)
-          (gone_without physical physical s.held refl) (gone_without physical physical s.made refl) (other_bytes physical unknown_id (no_unknown (lane_of physical) physical of_lane)) (same_bytes physical physical refl))
-          ∙ sym (if_same i physical Leftover (role_in x.stacks i) n)
+      | inl n ↦ (let (a, b) = at.unshared.roles physical h held in
+          ap (role_in y.stacks) n ∙ role_alone f physical a b ∙ left_over ∙ sym (if_same i physical Leftover (role_in x.stacks i) n))
     ] in
     -- the calls on it are those of this stack
     let elsewhere : (t : ℕ) (o : Open) → open_in x.stacks t ≡ Some o → names_id physical (Some o) ≡ true → o.stack ≡ name = λ t o k n.
@@ -565,12 +462,12 @@ kept_moves es x name s h number path physical w own at_work held b =
     let one : r ≡ thing_of name h = cc in
     sym z ∙ ap (λ (v : Thing). v.stack) one in
     let drops_same : (t : ℕ) → passes (is_on physical) (find (has_token t) s.tokens) ≡ names_id physical (open_in x.stacks t) = λ t. on_option (find (has_token t) s.tokens) (λ k. on_option (open_in x.stacks t) (λ g. cc)
-    (λ o g. cc (none_false (names_id physical (Some o)) (λ n. open_not_own x.stacks y.stacks name s s' f t o g (cc) (elsewhere t o g n)))))
-    (λ p k. let was = open_own x.stacks y.stacks name s s' f t (open_as name p) (at.unshared.tokens t p k).0 (cc) in cc) in
+    (λ o g. cc (none_false (names_id physical (Some o)) (λ n. open_not_own f t o g (cc) (elsewhere t o g n)))))
+    (λ p k. let was = open_of at t p k in cc) in
     let lost : (t : ℕ) → lost_on s' t ≡ (lost_on s t || gives (is_on physical) (find (has_token t) s.tokens)) = λ t. grind arith in
     dropped_moves es x y e name s s' at refl (λ t. told_same es e t refl) (is_on physical) once refl lost
     ∙ same_account _ _ (λ i. roles i) (λ t. cc (drops_same t)) (λ t. cc (drops_same t)) (λ t. refl) (λ t. refl)
-    (λ n. resting_same x.stacks y.stacks name s s' f n (not_resting s s' (is_working number x name s at_work) refl)) (λ n. refl) refl refl
+    (λ n. resting_same f n (not_resting s s' (is_working number x name s at_work) refl)) (λ n. refl) refl refl
 
 -- The entries of an operation take nothing of another stack.
 
@@ -607,90 +504,112 @@ intent_local ss name s s' p once none here_ sent = grind (arith, alike_local, di
 module _
     (es : List Entry) (x z : World) (w : Lanes) (name : List ℕ) (s : StackState) (p : Pending) (y : Settled) (place number token : ℕ) (answer : Reply) (before after : ℕ)
     (own : AreOwn x.stacks) (good : for_good answer ≡ Some y.settlement) (tied : AreTied (account_of es x) w) (is : IsSettledCall (account_of es x) w token (open_as name p) y)
-    (at : IsOnOne x z name s (answered_stack place number token answer before after p s))
-    (differ : all_differ bytes_eq (map (λ (h : Held). h.physical) (resources_of s)) ≡ true → ((k : List ℕ) (q : Dict) (i : List ℕ) (v : Dict) → p.request ≡ Request.Create k q → answer ≡ Reply.Success i v → held_in i s ≡ None) → all_differ bytes_eq (map (λ (h : Held). h.physical) (resources_of (answer_on (is_restore token s) p.path p.request answer s))) ≡ true) where
+    (at : IsOnOne x z name s (answered_stack place number token answer before after p s)) where
   abbrev s1 : StackState
   s1 = answer_on (is_restore token s) p.path p.request answer s
 
   abbrev sf : StackState
   sf = answered_stack place number token answer before after p s
 
-  once : IsOnce s
-  once = once_here x.stacks z.stacks name s sf at.one own
-
-  request_is : p.request ≡ y.request
-  request_is = (((tied.ties).settled_calls p.lane token y is.1).written (called_of (open_as name p)) ((tied.books).calls token (open_as name p) is.0)).1
+  abbrev asked : Open
+  asked = open_as name p
 
   -- what is new is held by none
   made_new : (i k : List ℕ) (q v : Dict) → p.request ≡ Request.Create k q → y.settlement ≡ Settlement.Success i v → role_in x.stacks i ≡ Stranger
-  made_new i k q v re ye = ((tied.ties).born token (open_as name p) y i k q v is (effect_made y.request y.settlement i k q v (sym request_is ∙ re) ye)).1
+  made_new i k q v re ye =
+      let request = (((tied.ties).settled_calls p.lane token y is.1).written (called_of asked) ((tied.books).calls token asked is.0)).1 in
+      ((tied.ties).born token asked y i k q v is (cc (sym request ∙ re))).1
 
   new_here : (i : List ℕ) → role_in x.stacks i ≡ Stranger → (held_in i s ≡ None) × (has_leftover i s.leftovers ≡ false)
-  new_here i st = found_none name (held_in i s) (has_leftover i s.leftovers) (role_stranger x.stacks z.stacks name s sf at.one i st).1
+  new_here i st = found_none name (held_in i s) (has_leftover i s.leftovers) (role_stranger at.one i st).1
 
   lv : Leaves s s1
   lv = leaves (is_restore token s) p.path p.request answer s
 
-  -- an id is made by the answer, is named by the call and held, or is to the stack what it was
+  tokens_are : sf.tokens ≡ without_token token s.tokens
+  tokens_are = (grind arith) ∙ ap (without_token token) lv.tokens
+
+  -- an id is made by the answer, or is named by the call and held, and no other stack knows it; or its role stays
   data Became (i : List ℕ) : Type 0 where
-    is_new : role_in x.stacks i ≡ Stranger → Became i
-    is_named : (h : Held) → held_in i s ≡ Some h → Became i
-    is_same : role_on name sf i ≡ role_on name s i → Became i
+    is_alone : role_in at.one.front i ≡ Stranger → role_in at.one.back i ≡ Stranger → role_on name sf i ≡ role_after asked p.request y.settlement (role_in x.stacks) i
+        → (role_in x.stacks i ≡ Stranger) ⊎ ((h : Held) × (held_in i s ≡ Some h)) → Became i
+    is_same : role_on name sf i ≡ role_on name s i → role_after asked p.request y.settlement (role_in x.stacks) i ≡ role_in x.stacks i → Became i
 
   became : (i : List ℕ) → Became i
-  became i = go (on_stack name (is_restore token s) p s p.request answer y.settlement good i) where
-    named_held : named_by p.request ≡ Some i → Became i
-    named_held nm =
-        let (r, k, n, m) = (tied.books).named token (open_as name p) i is.0 nm in
-        let (h, hk, hr) = found_some name (held_in i s) (has_leftover i s.leftovers) r (role_own x.stacks z.stacks name s sf at.one i r k n).1 in
-        is_named h hk
+  became i = elim (on_stack name (is_restore token s) p s p.request answer y.settlement good i) [
+    | made k q v re ye on ↦ (
+        let st = made_new i k q v re ye in
+        let (a, b, c) = role_stranger at.one i st in is_alone a c (on (new_here i st).0 (role_in x.stacks)) (inl st)
+        )
+    | named nm on ↦ (
+        let (r, k, n, m) = (tied.books).named token asked i is.0 nm in
+        let (h, hk, hr) = found_some name (held_in i s) (has_leftover i s.leftovers) r (role_own at.one i r k n).1 in
+        let (a, b) = at.unshared.roles i h hk in is_alone a b (on h hk (at.unshared.left i h hk) (role_in x.stacks) (role_of at i h hk)) (inr (h, hk))
+        )
+    | kept k turns ↦ is_same k (turns (role_in x.stacks))
+  ]
 
-    go : OnStack name (open_as name p) p.request y.settlement s s1 i → Became i
-    go (made k q v re ye on turns) = is_new (made_new i k q v re ye)
-    go (set q v nm on turns) = named_held nm
-    go (taken nm on turns) = named_held nm
-    go (kept eq turns) = is_same eq
+  roles : (i : List ℕ) → role_in z.stacks i ≡ role_after asked p.request y.settlement (role_in x.stacks) i
+  roles i = elim (became i) [ is_alone a b e c ↦ role_alone at.one i a b ∙ e | is_same k turns ↦ role_same at.one i k ∙ sym turns ]
+
+  now_open : (found : find (has_token token) s.tokens ≡ Some p) (t : ℕ) → open_in z.stacks t ≡ cond (t == token) None (open_in x.stacks t)
+  now_open found t = elim (number_or t token) [
+    | inl k ↦ (let (a, b) = at.unshared.tokens token p found in
+        open_closed at.one t (cc) (cc (tokens_are, token_gone t token s.tokens k)) (cc) ∙ sym (at_same t token None (open_in x.stacks t) k))
+    | inr k ↦ open_same at.one t (cc (tokens_are, token_left t token s.tokens k)) ∙ sym (at_other t token None (open_in x.stacks t) k)
+  ]
 
   held_or : (i : List ℕ) (h : Held) → held_in i sf ≡ Some h → ((g : Held) × (held_in i s ≡ Some g)) ⊎ (role_in x.stacks i ≡ Stranger)
-  held_or i h k = by (became i) (held_in i s) refl where
-    by : Became i → (o : Option Held) → held_in i s ≡ o → ((g : Held) × (held_in i s ≡ Some g)) ⊎ (role_in x.stacks i ≡ Stranger)
-    by (is_new st) o m = inr st
-    by (is_named g e) o m = inl (g, e)
-    by (is_same e) (Some g) m = inl (g, m)
-    by (is_same e) None m = absurd (held_none (has_leftover i s.leftovers) (cc)) where
-      held_none : (c : Bool) → Resource (thing_of name h) ≡ role_found name None c → ⊥
-      held_none c z = grind arith
-
-  tokens_are : sf.tokens ≡ without_token token s.tokens
-  tokens_are = closes token answer y.settlement s1.tokens good ∙ ap (without_token token) lv.tokens
+  held_or i h k = elim (became i) [
+    | is_alone a b e (inl st) ↦ inr st
+    | is_alone a b e (inr g) ↦ inl g
+    | is_same e turns ↦ inl (let (g, m, n) = found_some name (held_in i s) (has_leftover i s.leftovers) (thing_of name h) (cc) in (g, m))
+  ]
 
   role_or_made : (i : List ℕ) → role_on name s i ≡ Stranger → (role_on name sf i ≡ Stranger) ⊎ ((q : List ℕ × StackState) → In q x.stacks → role_on q.0 q.1 i ≡ Stranger)
   role_or_made i k = elim (became i) [
-    | is_new st ↦ inr (each_stranger x.stacks i st)
-    | is_named h e ↦ absurd (held_role name s i h e k)
-    | is_same e ↦ inl (e ∙ k)
+    | is_alone a b e (inl st) ↦ inr (each_stranger x.stacks i st)
+    | is_alone a b e (inr (h, g)) ↦ absurd (held_role name s i h g k)
+    | is_same e turns ↦ inl (e ∙ k)
   ]
 
   left_after : (i : List ℕ) (h : Held) → held_in i sf ≡ Some h → has_leftover i sf.leftovers ≡ false
-  left_after i h k = ap (has_leftover i) lv.leftovers ∙ elim (held_or i h k) [ inl g ↦ once.left i g.0 g.1 | inr g ↦ (new_here i g).1 ]
+  left_after i h k = ap (has_leftover i) lv.leftovers ∙ elim (held_or i h k) [ inl g ↦ at.unshared.left i g.0 g.1 | inr g ↦ (new_here i g).1 ]
 
   token_by : (t : ℕ) (v : Pending) → find (has_token t) sf.tokens ≡ Some v → (u : Pending) × (find (has_token t) s.tokens ≡ Some u)
-  token_by t v k = elim (number_or t token) [
-    | inl m ↦ (let z = ap (find (has_token t)) tokens_are ∙ token_gone t token s.tokens m in absurd (cc))
-    | inr m ↦ (v, sym (token_left t token s.tokens m) ∙ sym (ap (find (has_token t)) tokens_are) ∙ k)
-  ]
+  token_by t v k = grind (arith, number_or, tokens_are, token_gone, token_left)
 
-  pub outcome_local : IsLocal x.stacks name s sf
-  outcome_local = record {
-    once = record {
-      ids = differ once.ids (λ k q i v re ae. (new_here i (made_new i k q v re (ap (λ o. unwrap_or o y.settlement) (sym good ∙ ap for_good ae)))).0);
-      left = left_after;
-      tokens = ap (λ ps. all_differ ◌==◌ (tokens_of ps)) tokens_are ∙ differ_less ◌==◌ (λ (q : Pending). q.token) (λ (q : Pending). not (has_token token q)) s.tokens once.tokens;
-    };
-    held = λ i h k. elim (held_or i h k) [ inl g ↦ inl g | inr g ↦ inr (each_stranger x.stacks i g) ];
-    role = role_or_made;
-    tokens = λ t v k. inl (token_by t v k);
-  }
+  pub outcome_local :
+      (all_differ bytes_eq (map (λ (h : Held). h.physical) (resources_of s)) ≡ true
+      → ((k : List ℕ) (q : Dict) (i : List ℕ) (v : Dict) → p.request ≡ Request.Create k q → answer ≡ Reply.Success i v → held_in i s ≡ None)
+      → all_differ bytes_eq (map (λ (h : Held). h.physical) (resources_of s1)) ≡ true) → IsLocal x.stacks name s sf
+  outcome_local differ =
+      let once = once_here at.one own in
+      record {
+        once = record {
+          ids = differ once.ids (λ k q i v re ae. (new_here i (made_new i k q v re (ap (λ o. unwrap_or o y.settlement) (sym good ∙ ap for_good ae)))).0);
+          left = left_after;
+          tokens = ap (λ ps. all_differ ◌==◌ (tokens_of ps)) tokens_are ∙ differ_less ◌==◌ (λ (q : Pending). q.token) (λ (q : Pending). not (has_token token q)) s.tokens once.tokens;
+        };
+        held = λ i h k. elim (held_or i h k) [ inl g ↦ inl g | inr g ↦ inr (each_stranger x.stacks i g) ];
+        role = role_or_made;
+        tokens = λ t v k. inl (token_by t v k);
+      }
+
+pub outcome_moves : OutcomeMoves
+outcome_moves es x w name s p y number token answer before after own at_work found good tied is =
+    let e : Entry = Entry.Outcome number token answer before after in
+    let z : World = changed_by (x.place + 1) e x in
+    let at : IsOnOne x z name s (answered_stack (x.place + 1) number token answer before after p s) =
+    subst (λ q. IsOnOne x z name s (heard (x.place + 1) e s (stays_listed (replied token answer q s))).stack) found (on_one e x name s own refl at_work) in
+    let left = lv es x z w name s p y (x.place + 1) number token answer before after own good tied is at in
+    let tells : (t : ℕ) → told_in (es ++ e ∷ []) t ≡ cond (t == token) (Some y.settlement) (told_in es t) =
+    λ t. grind (arith, told_more, number_or, option_end, at_other) in
+    same_account _ _ (roles es x z w name s p y (x.place + 1) number token answer before after own good tied is at)
+    (now_open es x z w name s p y (x.place + 1) number token answer before after own good tied is at found)
+    (λ t. lost_same at.one t (ap (λ gs. list_any (λ (g : GivenUp). t == g.token) gs) left.abandoned))
+    (λ t. call_same es e t refl) tells (λ n. resting_same at.one n (not_resting s (answered_stack (x.place + 1) number token answer before after p s) (is_working number x name s at_work) left.status))
+    (λ n. ap (λ ls. lane_types ls n) at.lanes) at.token at.epoch
 
 -- an opening
 module _ (place epoch : ℕ) (lanes : List (List ℕ × List ℕ)) where

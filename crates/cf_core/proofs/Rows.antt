@@ -1,5 +1,5 @@
 -- A row of a ledger is that of the same call as it is answered, and as calls count anew.
-use Rattle.std.proofs.Common.{◌≡◌, ℕ, ◌==◌, List, [], ◌∷◌, refl, ap, map, option_map, arith}
+use Rattle.std.proofs.Common.{◌≡◌, ℕ, ◌==◌, List, [], ◌∷◌, Some, refl, ap, ◌∙◌, map, option_map, arith}
 use Rattle.cf_core.proofs.Words.{Call, Reply, anew, answered_call, cond, is_call}
 use Rattle.cf_core.proofs.Lemmas.{either_way}
 use Rattle.cf_core.specs.Books.{row_in}
@@ -8,15 +8,16 @@ use Rattle.cf_core.specs.Books.{row_in}
 pub record IsSameCall (c d : Call) : Type 0 where
   pub number : d.number ≡ c.number
   pub token : d.token ≡ c.token
+  pub lane : d.lane ≡ c.lane
   pub path : d.path ≡ c.path
   pub request : d.request ≡ c.request
   pub status : d.status ≡ c.status
 
 pub itself_same : (c : Call) → IsSameCall c c
-itself_same c = record { number = refl; token = refl; path = refl; request = refl; status = refl }
+itself_same c = record { number = refl; token = refl; lane = refl; path = refl; request = refl; status = refl }
 
 pub anew_same : (c : Call) → IsSameCall c (anew c)
-anew_same c = record { number = refl; token = refl; path = refl; request = refl; status = refl }
+anew_same c = record { number = refl; token = refl; lane = refl; path = refl; request = refl; status = refl }
 
 pub answered_same : (a : Reply) (c : Call) → IsSameCall c (answered_call a c)
 answered_same a c = grind arith
@@ -32,3 +33,6 @@ module _ (f : Call → Call) (same : (c : Call) → IsSameCall c (f c)) where
   pub call_mapped : (token : ℕ) (rows : List Call) → row_in token (map f rows) ≡ option_map f (row_in token rows)
   call_mapped token [] = refl
   call_mapped token (c ∷ rows) = let ih = call_mapped token rows in let e = ap (λ t. token == t) (same c).token in grind arith
+
+  pub row_found : (token : ℕ) (rows : List Call) (c : Call) → row_in token rows ≡ Some c → row_in token (map f rows) ≡ Some (f c)
+  row_found token rows c e = call_mapped token rows ∙ ap (option_map f) e

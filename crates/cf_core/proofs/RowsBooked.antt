@@ -1,5 +1,5 @@
 -- What rows, answers and open calls say of each other, as rows change, and as calls and answers are added.
-use Rattle.std.proofs.Common.{◌≡◌, ℕ, ◌==◌, List, [], ◌∷◌, ◌++◌, Bool, true, false, ◌||◌, Option, Some, None, refl, sym, ap, ◌∙◌, map, option_map, ◌<◌, ◌⊎◌, inl, inr, true≢false, arith, ◌+◌, ◌≢◌}
+use Rattle.std.proofs.Common.{◌≡◌, ℕ, List, [], ◌∷◌, ◌++◌, true, false, ◌||◌, Option, Some, None, refl, sym, ap, ◌∙◌, map, option_map, ◌<◌, ◌⊎◌, inl, inr, true≢false, arith}
 use Rattle.cf_core.proofs.Words.{AreBooked, AreRestoring, Call, GivesBack, HasFailedIn, Held, In, IsAnsweredIn, IsCounted, IsGivenUp, IsOpen, IsRowOf, Pending, Reply, Request, Response, Status, anew, answered_call, bytes_eq, cond, deletes, goes_back, has_path, is_bad_at, is_bad_outcome, is_call, is_doubt, is_refusal, is_restoring, is_success, is_update, new_call, second_so, settled_by, still_open, succeeded, updates, was_refused, where_call}
 use Rattle.cf_core.proofs.Lemmas.{bytes_or, each_map as each_mapped, eq-eqb, eqb-true, found_one, found_same, found_still, if_other, if_same, in_end, in_filter, in_front, in_more, in_reversed, none_below, not_so, reversed_more}
 use Rattle.cf_core.proofs.Rows.{IsSameCall, anew_same, answered_same, answered_row, answered_row_same, call_mapped}
@@ -16,14 +16,11 @@ pub bad_same : (path : List ℕ) (rows rows' : List Call) (replies : List Respon
 bad_same path rows rows' replies at bad = grind (arith, found_same, in_reversed, found_one)
 
 module _ (f : Call → Call) (same : (c : Call) → IsSameCall c (f c)) where
-  at_mapped : (path : List ℕ) (o : Option Call) → has_path path (option_map f o) ≡ has_path path o
-  at_mapped path o = grind arith
-
   outcome_mapped : (o : Option Call) (a : Reply) → is_bad_outcome (option_map f o) a ≡ is_bad_outcome o a
   outcome_mapped o a = grind arith
 
   pub bad_mapped : (path : List ℕ) (rows : List Call) (replies : List Response) → is_bad_at path (map f rows) replies ≡ is_bad_at path rows replies
-  bad_mapped path rows replies = grind (arith, bad_same, call_mapped, at_mapped, outcome_mapped)
+  bad_mapped path rows replies = grind (arith, bad_same, call_mapped, outcome_mapped)
 
 -- as a call is added
 pub bad_called : (path : List ℕ) (rows more : List Call) (replies : List Response)
@@ -33,11 +30,6 @@ bad_called path rows more replies called =
     (still r i)) where
       still : (r : Response) → In r replies → row_in r.token (rows ++ more) ≡ row_in r.token rows
       still r i = let k = called r i in found_still (is_call r.token) rows more k.0 k.1 ∙ sym k.1
-
--- as an answer is added
-pub bad_more : (path : List ℕ) (rows : List Call) (replies : List Response) (r0 : Response) (c : Call) → row_in r0.token rows ≡ Some c
-    → is_bad_at path rows (replies ++ r0 ∷ []) ≡ cond (bytes_eq path c.path) (is_bad_outcome (Some c) r0.answer) (is_bad_at path rows replies)
-bad_more path rows replies r0 c e = grind (arith, reversed_more)
 
 -- What rows, answers and open calls say of each other stays so as a phase begins, as calls are given up, and as one is written down
 -- or answered.
@@ -60,9 +52,6 @@ none_refuses q = grind arith
 
 pub success_refuses : (q : Request) → is_refusal q (Some settled.Success) ≡ false
 success_refuses q = grind arith
-
-refused_by : (a : Reply) (c : Call) → is_refusal c.request (settled_by a) ≡ true → was_refused (answered_call a c) ≡ true
-refused_by a c e = let none = none_refuses c.request in grind arith
 
 -- an update that is answered by a failure is refused
 update_refused : (q : Request) (k : _) → is_update q ≡ true → is_refusal q (Some (settled.Failed k)) ≡ true
@@ -182,14 +171,12 @@ module _ (number : ℕ) (rows : List Call) (replies : List Response) (tokens : L
 
     each_answered : (P : Call → Type 0) → ((c : Call) → In c rows → token ≡ c.token → IsRowOf p c → P (answered_call answer c))
         → ((c : Call) → In c rows → (token ≡ c.token → ⊥) → P c) → (c : Call) → In c rows' → P c
-    each_answered P same other = each_mapped P (answered_row token answer) rows (λ c j. by_test c j (is_call token c) refl) where
-      by_test : (c : Call) → In c rows → (t : Bool) → (token == c.token) ≡ t → P (cond t (answered_call answer c) c)
-      by_test c j t e = grind (arith, eqb-true, eq-eqb)
+    each_answered P same other = each_mapped P (answered_row token answer) rows (λ c j. grind (arith, eqb-true, eq-eqb))
 
     -- the last answer at a path, by then
     bad_then : (path : List ℕ) → is_bad_at path rows' replies' ≡ cond (bytes_eq path p.path) (is_bad_outcome (Some its) answer) (is_bad_at path rows replies)
     bad_then path =
-        bad_mapped (answered_row token answer) (answered_row_same token answer) path rows replies' ∙ bad_more path rows replies r0 its found
+        bad_mapped (answered_row token answer) (answered_row_same token answer) path rows replies' ∙ (grind (arith, reversed_more))
         ∙ ap (λ a. cond (bytes_eq path a) (is_bad_outcome (Some its) answer) (is_bad_at path rows replies)) row_of.path
 
     bad_there : (path : List ℕ) → path ≡ p.path → is_bad_outcome (Some its) answer ≡ true → is_bad_at path rows' replies' ≡ true
@@ -230,7 +217,7 @@ module _ (number : ℕ) (rows : List Call) (replies : List Response) (tokens : L
 
       tried_same : (c : Call) → In c rows → token ≡ c.token → IsRowOf p c → c.number ≡ number → (r : Held) → In r things' → deletes r.physical c.request ≡ true
           → (c.path ≡ r.path) × (IsOpen c.token tokens' ⊎ (was_refused (answered_call answer c) ≡ true))
-      tried_same c j e o n r l d = grind (arith, doubt_open, refused_by)
+      tried_same c j e o n r l d = grind (arith, doubt_open, none_refuses)
 
       pub booked_answered : AreBooked number rows' replies' tokens' things'
       booked_answered = record {
@@ -284,7 +271,6 @@ module _ (number : ℕ) (rows : List Call) (replies : List Response) (tokens : L
 
       now : (a : Reply) → answer ≡ a → (c : Call) → token ≡ c.token → IsRowOf p c → is_update c.request ≡ true
           → IsOpen (answered_call a c).token tokens' ⊎ ((succeeded (answered_call a c) ≡ true) ⊎ IsGivenUp rows' replies' tokens' (answered_call a c))
-      now (Reply.Success physical attrs) is c e o u = inr (inl refl)
       now (Reply.Failed k) is c e o u =
           inr (inr (record {
             refused = update_refused c.request k u;
@@ -297,4 +283,4 @@ module _ (number : ℕ) (rows : List Call) (replies : List Response) (tokens : L
                 let doubt : is_doubt answer ≡ true = closed token tokens answer q j (ap (λ z. z.token) same ∙ sym named) in
                 true≢false (sym doubt ∙ ap is_doubt is);
           }))
-      now Reply.Doubt is c e o u = inl (p, doubt_open token tokens answer p i (ap is_doubt is), sym named ∙ e)
+      now v0 is c e o u = grind (arith, doubt_open)

@@ -1,31 +1,21 @@
 -- An outcome that is written down keeps what holds at each moment of a life.
 use Rattle.std.proofs.Common.{◌≡◌, ℕ, List, [], ◌∷◌, ◌++◌, map, refl, sym, subst, ◌≢◌, inl, inr, ◌==◌, true, false, not, Option, Some, None, filter, find, ap, ◌∙◌, true≢false, arith, ◌+◌, ◌&&◌}
-use Rattle.cf_core.proofs.Words.{Account, Act, Agrees, AgreesIn, Answer, Answered, AreApart, AreHandedIn, AreLeased, AreTied, Books, BrokenWith, BrokenWithout, CallEnd, Called, Close, Crash, End, Entry, FencedLane, FitsLane, Grant, Held, HeldIsLive, In, IsKindFor as IsKindOf, IsLive, IsLocal, HasNextNumber, IsOfLane, IsOrderly, IsOut, IsOutcomeOf, IsSettledCall, IsSound, IsStart, IsThere, Lane, Lanes, LanesKeep, LanesOnce, Late, Lease as Granted, Life, Live, MayFollow, Happens, MayLeave, MayRepeat, StacksByName, OneStack, Open, Opened, OpenedKeeps, Park, Pending, Raise, RepeatKeeps, Replaced, Reply, Request, Resource, Schema, Settle, SettleKeeps, Settlement, StackState, Stage, Stale, Stood, Thing, Ties, Whole, World, account_of, account_with, bytes_eq, called_of, changed, changed_by, effect_at, empty_world, settled_under, first_again, first_so, fold_of, for_good, good_reply, has_leftover, has_token, heard, held_in, intended, is_at_rest, is_going, is_in_flight, is_lane_name, is_lane_of, is_opened_since, is_restore, lane_at, lane_of, lanes_of, late_by, lease_at, lease_for, lease_of, left_by, life_after, list_all, list_any, live_at, live_of, named_by, lane_types, new as is_new, no_lane, on_stack as stays_listed, open_as, open_in, open_on, option_map_or, option_or, pending_of, raised_to, repeated, replied as reply_of, resting_in, returned, role_found, role_in, second_so, settled_reply, settlement_in, stack_of_operation, thing_of, tokens_out, value_at, world_after, world_of}
-use Rattle.cf_core.proofs.Lemmas.{any_of, eq-eqb, find_mapped, found_one, found_stands, if_other, if_same, in_any, is_found_in, not-true, number_or, one_id, one_lane}
+use Rattle.cf_core.proofs.Words.{Account, Act, Agrees, AgreesIn, Answer, Answered, AreHandedIn, AreTied, Books, BrokenWith, BrokenWithout, CallEnd, Close, Crash, End, Entry, FencedLane, FitsLane, Grant, Held, HeldIsLive, In, IsKindFor, IsLive, IsLocal, HasNextNumber, IsOfLane, IsOrderly, IsOut, IsOutcomeOf, IsSettledCall, IsSound, IsStart, IsThere, Lane, Lanes, LanesKeep, LanesOnce, Late, Lease as Granted, Life, Live, MayFollow, Happens, MayLeave, MayRepeat, StacksByName, OneStack, Open, Opened, OpenedKeeps, Park, Pending, Raise, RepeatKeeps, Replaced, Reply, Request, Resource, Schema, Settle, SettleKeeps, Settlement, StackState, Stage, Stale, Thing, Ties, Whole, World, account_of, account_with, bytes_eq, called_of, changed, changed_by, effect_at, empty_world, settled_under, first_again, first_so, fold_of, for_good, good_reply, has_token, heard, held_in, here, intended, is_at_rest, is_going, is_in_flight, is_lane_name, is_lane_of, is_opened_since, is_restore, lane_at, lane_of, lanes_of, late_by, lease_at, lease_for, lease_of, left_by, life_after, list_all, list_any, live_of, named_by, lane_types, no_lane, on_stack as stays_listed, open_as, open_in, open_on, option_map_or, option_or, pending_of, raised_to, repeated, replied as reply_of, resting_in, returned, role_in, second_so, settled_reply, stack_of_operation, there, thing_of, tokens_out, value_at, world_after, world_of}
+use Rattle.cf_core.proofs.Lemmas.{any_of, eq-eqb, find_mapped, found_one, found_stands, if_other, if_same, in_any, map-append, is_found_in, not-true, number_or, one_id, one_lane}
 use Rattle.cf_agree.proofs.Keeps.{call_keeps, stale_keeps, late_keeps, fence_keeps, return_keeps, opening_keeps, intent_keeps, answer_keeps}
 use Rattle.cf_agree.proofs.{Effects.gone_names, Effects.set_names, Leases.leased_granted, Words.bytes_same, Words.in_cons, Words.same_bytes}
 use Rattle.cf_agree.proofs.Calls.{request_of}
 use Rattle.cf_agree.specs.{Moves.CallOut, Moves.MayBeWritten, Moves.leases_granted, Moves.leases_replied}
-use Rattle.cf_tree.specs.Lists.{there}
-use Rattle.cf_tree.specs.Lists.{here}
-use Rattle.cf_tree.specs.Lists.{In as InLane}
 use Rattle.cf_agree.specs.{Account.answered}
-use Rattle.cf_handler.specs.Move.{IsKindFor}
 use Rattle.cf_core.proofs.Outcomes.{answered_stack, doubt_local, doubt_moves, held_stands, in_doubt, intent_local, open_found_in, outcome_local, outcome_moves, own_opened, role_found_in, token_of}
-use Rattle.cf_core.proofs.Stacks.{IsOnOne, intent_moves, is_working, map_none, none_open, on_one, once_here, open_none, open_own, opening_moves, own_kept, role_here, sends, stands_on, or_none}
+use Rattle.cf_core.proofs.Stacks.{IsOnOne, intent_moves, is_working, map_none, none_open, on_one, once_here, open_none, open_of, opening_moves, own_kept, role_of, sends, stands_on, or_none}
 use Rattle.cf_core.proofs.FitKept.{left_by as answered_left, differ_left}
 use Rattle.cf_plan.specs.Life.{lease_replying as replying_life}
-use Rattle.cf_handler.specs.Answered.{settlement_in as settlement_life}
-use Rattle.cf_stacks.proofs.Apart.{stay_apart}
-use Rattle.std.specs.{Option.option_map, Prelude.is_some}
-use Rattle.cf_core.specs.OneStack.{there as stands_there}
+use Rattle.cf_stacks.proofs.{Apart.stay_apart, Folded.folded_more}
+use Rattle.std.specs.{Option.option_map}
 use Rattle.cf_plan.proofs.Doing.{some_is as some_of}
 
 -- One more entry of a life: what holds of the world that it leaves holds of the life.
-
-pub fold_more : (x : World) (es : List Entry) (e : Entry) → fold_of x (es ++ e ∷ []) ≡ world_after (fold_of x es) e
-fold_more x [] e = refl
-fold_more x (d ∷ es) e = fold_more (world_after x d) es e
 
 -- what the journal says in a life, and its lanes
 abbrev told_in : Life → Account
@@ -38,10 +28,10 @@ module _ (life : Life) (e : Entry) where
   -- the entry is there: of its world
   pub agrees_more : (ls : List CallOut) → Agrees (account_with e life.entries (world_of life)) (lanes_of life.lanes) ls
       → Agrees (account_of (life.entries ++ e ∷ []) (fold_of empty_world (life.entries ++ e ∷ []))) (lanes_of life.lanes) ls
-  agrees_more ls g = subst (λ x. Agrees (account_of (life.entries ++ e ∷ []) x) (lanes_of life.lanes) ls) (sym (fold_more empty_world life.entries e)) g
+  agrees_more ls g = subst (λ x. Agrees (account_of (life.entries ++ e ∷ []) x) (lanes_of life.lanes) ls) (folded_more empty_world life.entries e) g
 
   pub orderly_more : IsOrderly (world_after (world_of life) e) → IsOrderly (fold_of empty_world (life.entries ++ e ∷ []))
-  orderly_more g = subst IsOrderly (sym (fold_more empty_world life.entries e)) g
+  orderly_more g = subst IsOrderly (folded_more empty_world life.entries e) g
 
 -- one stack changes, and takes nothing of another
 pub orderly_on : (x : World) (e : Entry) (name : List ℕ) (s s' : StackState) → IsOrderly x → HasNextNumber e x → OneStack x.stacks (world_after x e).stacks name s s' → IsLocal x.stacks name s s'
@@ -69,30 +59,17 @@ module _ (n : List ℕ) (change : FencedLane → FencedLane) where
   found_name m ls l e = bytes_same m l.name (found_one (λ (k : Lane). bytes_eq m k.name) ls l e).1
 
   pub replaced : (ls : List Lane) (l : Lane) → lane_at n ls ≡ Some l → Replaced n (change l.state) (lanes_of ls) (lanes_of (map (changed n change) ls))
-  replaced ls l e = record {
-    kinds = λ m. ap (option_map (λ (x : Lane). x.kind)) (found_changed m ls) ∙ same_kind (lane_at m ls);
-    at = ap (λ o. option_map_or (λ (x : Lane). x.state) o Rattle.cf_agree.specs.Lanes.no_lane) (found_changed n ls ∙ ap (option_map (changed n change)) e)
-        ∙ ap (λ (x : Lane). x.state) (if_same n l.name (record l { state = change l.state }) l (found_name n ls l e));
-    others = λ m d. ap (λ o. option_map_or (λ (x : Lane). x.state) o Rattle.cf_agree.specs.Lanes.no_lane) (found_changed m ls) ∙ same_state m d (lane_at m ls) refl;
-  }
-    where
-      same_kind : (o : Option Lane) → option_map (λ (x : Lane). x.kind) (option_map (changed n change) o) ≡ option_map (λ (x : Lane). x.kind) o
-      same_kind None = refl
-      same_kind (Some x) = ap Some (kept_kind x)
-
-      same_state : (m : List ℕ) → m ≢ n → (o : Option Lane) → lane_at m ls ≡ o → option_map_or (λ (x : Lane). x.state) (option_map (changed n change) o) Rattle.cf_agree.specs.Lanes.no_lane ≡ option_map_or (λ (x : Lane). x.state) o Rattle.cf_agree.specs.Lanes.no_lane
-      same_state m d None k = refl
-      same_state m d (Some x) k = ap (λ (y : Lane). y.state) (if_other n x.name (record x { state = change x.state }) x (λ z. d (found_name m ls x k ∙ sym z)))
+  replaced ls l e = grind (arith, found_changed, if_same, found_name, kept_kind, if_other)
 
 -- a lane that is there
 pub there_is : (ls : List Lane) (n : List ℕ) (l : Lane) → lane_at n ls ≡ Some l → IsThere (lanes_of ls) n × ((lanes_of ls).lane n ≡ l.state)
 there_is ls n l e = ((l.kind, ap (option_map (λ (x : Lane). x.kind)) e), ap (λ o. option_map_or (λ (x : Lane). x.state) o Rattle.cf_agree.specs.Lanes.no_lane) e)
 
 -- the lease of a token
-pub found_lease : (t : ℕ) (ls : List Granted) (l : Granted) → find (λ l. t == l.token) ls ≡ Some l → (t ≡ l.token) × InLane (lease_of l) (map lease_of ls)
+pub found_lease : (t : ℕ) (ls : List Granted) (l : Granted) → find (λ l. t == l.token) ls ≡ Some l → (t ≡ l.token) × In (lease_of l) (map lease_of ls)
 found_lease t [] l e = absurd (cc)
 found_lease t (k ∷ ls) l e = elim (number_or t k.token) [
-  | inl x ↦ (let one : k ≡ l = grind arith in (x ∙ ap (λ (y : Granted). y.token) one, subst (λ q. InLane q (map lease_of (k ∷ ls))) (ap lease_of one) here))
+  | inl x ↦ (let one : k ≡ l = grind arith in (x ∙ ap (λ (y : Granted). y.token) one, subst (λ q. In q (map lease_of (k ∷ ls))) (ap lease_of one) here))
   | inr x ↦ (let (y, i) = found_lease t ls l (grind arith) in (y, there i))
 ]
 
@@ -104,9 +81,6 @@ pub returned_same : (t : ℕ) (ls : List Granted) → map lease_of (filter (λ l
 returned_same t [] = refl
 returned_same t (l ∷ ls) = grind (arith, returned_same t ls)
 
-same_settlement : (a : Answer) → settlement_life a ≡ settlement_in a
-same_settlement a = grind arith
-
 -- no lease is out
 pub none_out : (a : Account) (w : Lanes) (ls : List CallOut) → Agrees a w ls → Agrees a w []
 none_out a w ls h = record { tied = h.tied; leased = record { once = λ l m i. elim i [ ]; out = λ l i. elim i [ ]; replies = λ l x i. elim i [ ] } }
@@ -115,7 +89,7 @@ pub lanes_keep : LanesKeep
 lanes_keep schemas life (Act token reply left) of (lease, lane, found, rest, home, leave) h =
     let change : FencedLane → FencedLane = left_by left (world_of life).epoch lease.token lease.request in
     let is : IsThere (held_by life) lease.lane × ((held_by life).lane lease.lane ≡ lane.state) = there_is life.lanes lease.lane lane home in
-    let mine : (token ≡ lease.token) × InLane (lease_of lease) (map lease_of life.leases) = found_lease token life.leases lease found in
+    let mine : (token ≡ lease.token) × In (lease_of lease) (map lease_of life.leases) = found_lease token life.leases lease found in
     let after : Lanes = lanes_of (map (changed lease.lane change) life.lanes) in
     let rep : Replaced lease.lane (change lane.state) (held_by life) after = replaced lease.lane change life.lanes lane home in
     -- the life after it, where the lease is found
@@ -124,14 +98,11 @@ lanes_keep schemas life (Act token reply left) of (lease, lane, found, rest, hom
     (subst (Agrees (told_in life) after) (ap (λ t. leases_replied t (settled_reply r) (map lease_of life.leases)) (sym mine.0) ∙ sym (replied_same token r life.leases)) g) in
     (elim reply as (λ r. MayLeave lane (change lane.state) (world_of life).epoch lease r → AgreesIn (life_after life (Act token r left))) [
       | Answered x before counted ↦ λ m. done (Answered x before counted)
-          (subst (λ o. Agrees (told_in life) after (leases_replied lease.token o (map lease_of life.leases))) (sym (same_settlement x))
           (call_keeps (told_in life) (held_by life) after (map lease_of life.leases) (lease_of lease) (change lane.state) x h mine.1 is.0 rep
           (subst (λ l. Rattle.cf_handler.specs.Fence.CallMove lease.lane l (change lane.state) (world_of life).epoch lease.token lease.request x) (sym is.1)
           (subst (λ n. Rattle.cf_handler.specs.Fence.CallMove n lane.state (change lane.state) (world_of life).epoch lease.token lease.request x)
-          (sym (found_name lease.lane change lease.lane life.lanes lane home)) m.1))))
-      | Stale fence ↦ λ m. done (Stale fence)
-          (stale_keeps (told_in life) (held_by life) after (map lease_of life.leases) (lease_of lease) (change lane.state) fence h mine.1 is.0 rep
-          (subst (λ l. Rattle.cf_handler.specs.Fence.IsStale l (change lane.state) (world_of life).epoch fence) (sym is.1) m))
+          (sym (found_name lease.lane change lease.lane life.lanes lane home)) m.1)))
+      | Stale fence ↦ grind (arith, stale_keeps, mine)
     ]) leave
 lanes_keep schemas life (Late n place s) of may h =
     let is : IsThere (held_by life) n × ((held_by life).lane n ≡ may.0.state) = there_is life.lanes n may.0 may.1 in
@@ -174,54 +145,12 @@ map_some o k e = grind arith
 blank_tied : (kind : List ℕ → Option (List ℕ)) → ((n k : List ℕ) → kind n ≡ Some k → is_lane_name n ≡ true)
     → AreTied (account_of [] empty_world) (record { kind = kind; lane = λ n. no_lane })
 blank_tied kind names = record {
-  books = record {
-    calls = λ t o e. absurd (cc);
-    numbers = λ t c e. absurd (cc);
-    untold = λ t o e. refl;
-    told_calls = λ t x e. absurd (cc);
-    lost_calls = λ t e. absurd (true≢false (sym e));
-    named = λ t o i e. absurd (cc);
-    home = λ t o i e. absurd (cc);
-    once = λ t u o v e. absurd (cc);
-    homes = λ i r e. absurd (cc);
-    open_homes = λ t o e. absurd (cc);
-  };
-  ties = record {
-    handed = λ n k e. absurd (cc);
-    lane_names = λ n (k, e). names n k e;
-    settled_once = λ n s i. elim i [ ];
-    base_once = λ n. refl;
-    base_named = λ n i e. absurd (true≢false (sym e));
-    created_named = λ n i t s e. absurd (cc);
-    created_once = λ n i t u s r e. absurd (cc);
-    settled_calls = λ n t s e. absurd (cc);
-    flying_calls = λ n f i. elim i [ ];
-    answers = λ t x c e. absurd (cc);
-    flying_open = λ n f i. elim i [ ];
-    flying_epochs = λ n f i. elim i [ ];
-    flying_at_rest = λ n f o i. elim i [ ];
-    fences = λ n. omega arith;
-    known = λ i e. absurd (e refl);
-    gone = λ i r e. absurd (cc);
-    alive = λ i r e. absurd (cc);
-    same = λ i r v e. absurd (cc);
-    changed = λ t o s i p q (e, f). absurd (cc);
-    born = λ t o s i k p q (e, f). absurd (cc);
-    live_named = λ n i v e. absurd (cc);
-    listed = λ n i v e. absurd (cc);
-  };
+  books = grind arith;
+  ties = grind arith;
 }
 
 pub start_agrees : (schemas : List Schema) (life : Life) → IsStart schemas life → AgreesIn life
-start_agrees schemas life h =
-    let kind : List ℕ → Option (List ℕ) = (lanes_of life.lanes).kind in
-    let tied : AreTied (account_of [] empty_world) (record { kind = kind; lane = λ n. no_lane }) =
-    blank_tied kind (λ n k e. let (l, f) = map_some (lane_at n life.lanes) k e in named_all n life.lanes l (h.named).named f) in
-    let none : Agrees (account_of [] empty_world) (record { kind = kind; lane = λ n. no_lane }) [] =
-    record { tied = tied; leased = record { once = λ l m i. elim i [ ]; out = λ l i. elim i [ ]; replies = λ l x i. elim i [ ] } } in
-    subst (λ es. Agrees (account_of es (fold_of empty_world es)) (lanes_of life.lanes) (map lease_of life.leases)) (sym h.no_entries)
-    (subst (λ ls. Agrees (account_of [] empty_world) (lanes_of life.lanes) (map lease_of ls)) (sym h.no_leases)
-    (subst (λ (w : Lanes). Agrees (account_of [] empty_world) w []) (λ k. record { kind = kind; lane = λ n. sym (blank life h.untouched n) k }) none))
+start_agrees schemas life h = grind (arith, blank_tied, map_some, named_all, blank)
 
 -- An opening keeps what holds at each moment of a life.
 
@@ -243,9 +172,7 @@ names_one lanes once l i =
 -- lanes that are handed in are named with their types
 module _ (life : Life) (lanes : List (List ℕ × List ℕ)) (handed : AreHandedIn life lanes) where
   is_there : (l : List ℕ × List ℕ) → In l lanes → (lanes_of life.lanes).kind l.0 ≡ Some l.1
-  is_there l i =
-      let (x, e, k) = handed.there_are l i in
-      ap (option_map (λ (y : Lane). y.kind)) e ∙ ap (λ (m : List ℕ × List ℕ). Some m.1) (sym k)
+  is_there l i = grind arith
 
   pub named_there : (n k : List ℕ) → lane_types lanes n ≡ Some k → (lanes_of life.lanes).kind n ≡ Some k
   named_there n k e = let (l, i, x, y) = named_found lanes n k e in ap (lanes_of life.lanes).kind x ∙ is_there l i ∙ ap Some y
@@ -253,63 +180,51 @@ module _ (life : Life) (lanes : List (List ℕ × List ℕ)) (handed : AreHanded
   pub named_of : (l : List ℕ × List ℕ) → In l lanes → lane_types lanes l.0 ≡ Some l.1
   named_of = names_one lanes (one_id (λ (n : List ℕ × List ℕ). n.0) lanes handed.once)
 
-kind_for : (r : Request) (k : List ℕ) → IsKindOf r k → IsKindFor r k
-kind_for r k e = grind arith
-
 pub opened_keeps : OpenedKeeps
 opened_keeps schemas life epoch lanes end may h =
     let e : Entry = Entry.Opened epoch lanes in
-    let name_of : (l : List ℕ × List ℕ) → In l lanes → is_lane_name l.0 ≡ true =
-    λ l i. ((h.agrees.tied).ties).lane_names l.0 (l.1, is_there life lanes may.2 l i) in
-    let homes : (i : List ℕ) (r : Thing) → role_in (world_of life).stacks i ≡ Resource r → lane_types lanes (lane_of i) ≡ Some r.kind = λ i r k.
-    let f = role_found_in (world_of life).stacks i r h.orderly.own.names k in
+    let x : World = world_of life in
+    let names = h.orderly.own.names in
+    let homes : (i : List ℕ) (r : Thing) → role_in x.stacks i ≡ Resource r → lane_types lanes (lane_of i) ≡ Some r.kind = λ i r k.
+    let f = role_found_in x.stacks i r names k in
     let (j, ih) = held_stands i f.stack f.held f.found in
     let (l, il, of, kd) = (may.1.2 r.stack f.stack f.stands).0 f.held j in
-    let at : lane_of i ≡ l.0 = ap lane_of ih ∙ one_lane l.0 (f.held).physical (name_of l il) of in
-    ap (lane_types lanes) at ∙ named_of life lanes may.2 l il ∙ ap Some (kd ∙ ap (λ (t : Thing). t.kind) f.same) in
-    let open_homes : (t : ℕ) (o : Open) → open_in (world_of life).stacks t ≡ Some o → (k : List ℕ) × (lane_types lanes o.lane ≡ Some k) × IsKindFor o.request k = λ t o k.
-    let f = open_found_in (world_of life).stacks t o h.orderly.own.names k in
+    let name = ((h.agrees.tied).ties).lane_names l.0 (l.1, is_there life lanes may.2 l il) in
+    ap (lane_types lanes) (ap lane_of ih ∙ one_lane l.0 (f.held).physical name of) ∙ named_of life lanes may.2 l il ∙ ap Some (kd ∙ ap (λ (t : Thing). t.kind) f.same) in
+    let open_homes : (t : ℕ) (o : Open) → open_in x.stacks t ≡ Some o → (k : List ℕ) × (lane_types lanes o.lane ≡ Some k) × IsKindFor o.request k = λ t o k.
+    let f = open_found_in x.stacks t o names k in
     let (l, il, fit) = (may.1.2 o.stack f.stack f.stands).1 f.pending (found_one _ _ f.pending f.found).0 in
-    let at = fit.0 in
-    let kd = fit.1 in
-    (l.1, ap (lane_types lanes) (ap (λ (v : Open). v.lane) (sym f.same) ∙ sym at) ∙ named_of life lanes may.2 l il, subst (λ (v : Open). IsKindFor v.request l.1) f.same (kind_for (f.pending).request l.1 kd)) in
-    let agreed : Agrees (account_of (life.entries ++ e ∷ []) (world_after (world_of life) (Entry.Opened epoch lanes))) (held_by life) [] =
-    subst (λ b. Agrees b (held_by life) []) (sym (opening_moves life.entries (world_of life) epoch lanes may.1.1))
-    (opening_keeps (told_in life) (held_by life) (lane_types lanes) (resting_in (world_after (world_of life) (Entry.Opened epoch lanes)).stacks) h.agrees.tied (record { handed = named_there life lanes may.2; homes = homes; open_homes = open_homes })) in
-    let apart : AreApart (world_after (world_of life) (Entry.Opened epoch lanes)) =
-    stay_apart (world_of life) (Entry.Opened epoch lanes) h.orderly.apart tt in
-    let orderly : IsOrderly (world_after (world_of life) (Entry.Opened epoch lanes)) = record {
-      apart = apart;
-      own = own_opened ((world_of life).place + 1) epoch lanes (world_of life).stacks apart.names h.orderly.own;
-      once = λ l m i j k. one_id (λ (n : List ℕ × List ℕ). n.0) lanes may.2.once l m i j k;
-    } in
+    let kind : IsKindFor (f.pending).request l.1 = grind (arith, fit.1) in
+    (l.1, ap (lane_types lanes) (ap (λ (v : Open). v.lane) (sym f.same) ∙ sym fit.0) ∙ named_of life lanes may.2 l il, subst (λ (v : Open). IsKindFor v.request l.1) f.same fit.1) in
+    let agreed : Agrees (account_of (life.entries ++ e ∷ []) (world_after x e)) (held_by life) [] =
+    subst (λ b. Agrees b (held_by life) []) (sym (opening_moves life.entries x epoch lanes may.1.1))
+    (opening_keeps (told_in life) (held_by life) (lane_types lanes) (resting_in (world_after x e).stacks) h.agrees.tied
+    (record { handed = named_there life lanes may.2; homes = homes; open_homes = open_homes })) in
+    let apart = stay_apart x e h.orderly.apart tt in
+    let own = own_opened (x.place + 1) epoch lanes x.stacks apart.names h.orderly.own in
     elim end as (λ d. IsSound (life_after life (Opened epoch lanes d))) [
       | BrokenWithout ↦ record { agrees = none_out (told_in life) (held_by life) (map lease_of life.leases) h.agrees; orderly = h.orderly }
-      | _ ↦ record { agrees = agrees_more life e [] agreed; orderly = orderly_more life e orderly }
+      | _ ↦ record {
+        agrees = agrees_more life e [] agreed;
+        orderly = orderly_more life e (record { apart = apart; own = own; once = one_id (λ (n : List ℕ × List ℕ). n.0) lanes may.2.once });
+      }
     ]
 
 -- A call that is written down and granted keeps what holds at each moment of a life.
 
-pub more_leases : (ls : List Granted) (l : Granted) → map lease_of (ls ++ l ∷ []) ≡ map lease_of ls ++ lease_of l ∷ []
-more_leases [] l = refl
-more_leases (k ∷ ls) l = ap (λ xs. lease_of k ∷ xs) (more_leases ls l)
-
 -- the lanes of the last opening, as the account names them
 module _ (x : World) (once : LanesOnce x) where
-  names_lane : (l : List ℕ × List ℕ) → In l x.lanes → lane_types x.lanes l.0 ≡ Some l.1
-  names_lane = names_one x.lanes once
-
   by_name : (lane : List ℕ) → list_any (λ (l : List ℕ × List ℕ). bytes_eq lane l.0) x.lanes ≡ true → (k : List ℕ) × (lane_types x.lanes lane ≡ Some k)
   by_name lane h =
       let (l, i, t) = in_any (λ (l : List ℕ × List ℕ). bytes_eq lane l.0) x.lanes h in
-      (l.1, ap (lane_types x.lanes) (bytes_same lane l.0 t) ∙ names_lane l i)
+      (l.1, ap (lane_types x.lanes) (bytes_same lane l.0 t) ∙ (names_one x.lanes once) l i)
 
   at_home : (lane : List ℕ) (r : Request) → FitsLane x lane r → (k : List ℕ) × (lane_types x.lanes lane ≡ Some k) × IsKindFor r k
   at_home lane (Request.Create k props) h =
       let (l, i, t) = in_any (is_lane_of lane k) x.lanes h in
       let named = first_so (bytes_eq lane l.0) (bytes_eq k l.1) t in
       let kind = second_so (bytes_eq lane l.0) (bytes_eq k l.1) t in
-      (l.1, ap (lane_types x.lanes) (bytes_same lane l.0 named) ∙ names_lane l i, sym (bytes_same k l.1 kind))
+      (l.1, ap (lane_types x.lanes) (bytes_same lane l.0 named) ∙ (names_one x.lanes once) l i, sym (bytes_same k l.1 kind))
   at_home lane _ h = let (k, e) = by_name lane h.1 in (k, e, tt)
 
   of_lane : (lane : List ℕ) (r : Request) (i : List ℕ) → FitsLane x lane r → named_by r ≡ Some i → IsOfLane lane i
@@ -328,10 +243,8 @@ intent_keeps_in schemas life number token lane path r end names (running, granti
     let o : Open = record { stack = name; path = path; lane = lane; request = r } in
     let p : Pending = record { token = token; path = path; lane = lane; request = r } in
     let s' : StackState = (effect_at (x.place + 1) (Entry.Intent number token lane path r) s).stack in
-    let at : IsOnOne x (changed_by (x.place + 1) (Entry.Intent number token lane path r) x) name s s' =
-    on_one (Entry.Intent number token lane path r) x name s h.orderly.own refl found in
-    let stands : value_at name x.stacks ≡ Some s =
-    found_stands (λ (q : List ℕ × StackState). is_going number q.1) x.stacks (name, s) h.orderly.own.names found in
+    let at = on_one e x name s h.orderly.own refl found in
+    let stands = found_stands (λ (q : List ℕ × StackState). is_going number q.1) x.stacks (name, s) h.orderly.own.names found in
     let free : (t : ℕ) (v : Open) → (told_in life).open_ t ≡ Some v → v.stack ≡ name → v.path ≢ path = λ t v k n q.
     let f = open_found_in x.stacks t v h.orderly.own.names k in
     let both : Some f.stack ≡ Some s = sym f.stands ∙ ap (λ m. value_at m x.stacks) n ∙ stands in
@@ -341,35 +254,26 @@ intent_keeps_in schemas life number token lane path r end names (running, granti
     ∙ not-true (list_any (λ (p : Pending). bytes_eq path p.path) s.tokens) may.free) in
     let may_intend : MayBeWritten (told_in life) o = record {
       free = free;
-      named = λ i n. let (q, k, l) = names name s i found n in (
-        thing_of name q,
-        role_here x.stacks (changed_by (x.place + 1) (Entry.Intent number token lane path r) x).stacks name s s' at.one i (thing_of name q) (at.unshared.roles i q k).0 (ap (λ z. role_found name z (has_leftover i s.leftovers)) k),
-        refl,
-        l,
-      );
+      named = λ i n. let (q, k, l) = names name s i found n in (thing_of name q, role_of at i q k, refl, l);
       home = λ i n. let (k, f, z) = at_home x h.orderly.once lane r may.fits in
           one_lane lane i (((h.agrees.tied).ties).lane_names lane (k, ((h.agrees.tied).ties).handed lane k f)) (of_lane x h.orderly.once lane r i may.fits n);
       at_home = at_home x h.orderly.once lane r may.fits;
     } in
     let resting : (told_in life).resting name ≡ false =
     ap (λ z. option_map_or is_at_rest z false) stands ∙ ap (λ b. not b && is_opened_since s) (is_working number x name s found) in
-    let both : Agrees (intended o (told_in life)) (held_by life) (map lease_of life.leases) × ((told_in life).resting name ≡ false → Agrees (intended o (told_in life)) (held_by life) (leases_granted ((told_in life).last + 1) lane r (map lease_of life.leases))) =
-    intent_keeps (told_in life) (held_by life) (map lease_of life.leases) o h.agrees may_intend in
+    let both = intent_keeps (told_in life) (held_by life) (map lease_of life.leases) o h.agrees may_intend in
     let there_now : (ls : List CallOut) → Agrees (intended o (told_in life)) (held_by life) ls → Agrees (account_of (life.entries ++ e ∷ []) (fold_of empty_world (life.entries ++ e ∷ []))) (held_by life) ls =
     λ ls g. agrees_more life e ls (subst (λ b. Agrees b (held_by life) ls) (sym (intent_moves life.entries x name s number token lane path r h.orderly.own found may.next (h.agrees.tied).books)) g) in
     let none : open_in x.stacks token ≡ None = ap (open_in x.stacks) may.next ∙ none_open life.entries x (h.agrees.tied).books in
-    let none_here : find (has_token token) s.tokens ≡ None =
-    map_none (open_as name) (find (has_token token) s.tokens) (open_none x.stacks (changed_by (x.place + 1) (Entry.Intent number token lane path r) x).stacks name s s' at.one token none).1 in
-    let orderly : IsOrderly (world_after x e) = orderly_on x (Entry.Intent number token lane path r) name s s' h.orderly tt at.one
-    (intent_local x.stacks name s s' p (once_here x.stacks (changed_by (x.place + 1) (Entry.Intent number token lane path r) x).stacks name s s' at.one h.orderly.own) none none_here (sends (x.place + 1) number p s none_here)) at.lanes in
+    let none_here = map_none (open_as name) (find (has_token token) s.tokens) (open_none at.one token none).1 in
+    let orderly = orderly_more life e (orderly_on x e name s s' h.orderly tt at.one
+    (intent_local x.stacks name s s' p (once_here at.one h.orderly.own) none none_here (sends (x.place + 1) number p s none_here)) at.lanes) in
     let lease : Granted = record { number = number; token = token; lane = lane; request = r; reply = None } in
+    let more = ap (λ t. leases_granted t lane r (map lease_of life.leases)) (sym may.next) ∙ sym
+    (map-append lease_of life.leases (lease ∷ [])) in
     elim end as (λ d. IsSound (life_after life (Grant (Entry.Intent number token lane path r) d))) [
-      | Whole ↦ record {
-        agrees = there_now (map lease_of (life.leases ++ lease ∷ []))
-            (subst (λ ls. Agrees (intended o (told_in life)) (held_by life) ls) (ap (λ t. leases_granted t lane r (map lease_of life.leases)) (sym may.next) ∙ sym (more_leases life.leases lease)) (both.1 resting));
-        orderly = orderly_more life e orderly;
-      }
-      | BrokenWith ↦ record { agrees = there_now (map lease_of life.leases) both.0; orderly = orderly_more life e orderly }
+      | Whole ↦ record { agrees = there_now _ (subst (Agrees (intended o (told_in life)) (held_by life)) more (both.1 resting)); orderly = orderly }
+      | BrokenWith ↦ record { agrees = there_now (map lease_of life.leases) both.0; orderly = orderly }
       | BrokenWithout ↦ record { agrees = h.agrees; orderly = h.orderly }
     ]
 
@@ -377,7 +281,7 @@ module _ (schemas : List Schema) (life : Life) (token : ℕ) (h : IsSound life) 
   abbrev ls : List CallOut
   ls = map lease_of life.leases
 
-  mine : (token ≡ lease.token) × InLane (lease_of lease) ls
+  mine : (token ≡ lease.token) × In (lease_of lease) ls
   mine = found_lease token life.leases lease found
 
   -- what the entry leaves: the lease is back
@@ -387,8 +291,7 @@ module _ (schemas : List Schema) (life : Life) (token : ℕ) (h : IsSound life) 
 
   -- the entry is there, or not
   settled_life : (e : Entry) → IsBack e → (end : End) → IsSound (life_after life (Settle token e end))
-  settled_life e g BrokenWithout =
-      record { agrees = subst (Agrees (told_in life) (held_by life)) (sym (returned_same token life.leases)) (return_keeps (told_in life) (held_by life) ls token h.agrees); orderly = h.orderly }
+  settled_life e g BrokenWithout = grind (arith, returned_same, return_keeps, h.agrees, h.orderly)
   settled_life e g _ = record {
     agrees = subst (Agrees (account_of (life.entries ++ e ∷ []) (fold_of empty_world (life.entries ++ e ∷ []))) (held_by life)) (sym (returned_same token life.leases)) (agrees_more life e (returned token ls) g.agrees);
     orderly = orderly_more life e g.orderly;
@@ -397,13 +300,13 @@ module _ (schemas : List Schema) (life : Life) (token : ℕ) (h : IsSound life) 
   by_doubt : (before after : ℕ) → MayFollow schemas (world_of life) (tokens_out life) (Entry.Outcome lease.number lease.token Reply.Doubt before after) → IsBack (Entry.Outcome lease.number lease.token Reply.Doubt before after)
   by_doubt before after (name, s, stage, at_work, at_stage, may) =
       let x : World = fold_of empty_world life.entries in
-      let s' : StackState = (effect_at (x.place + 1) (Entry.Outcome lease.number lease.token Reply.Doubt before after) s).stack in
-      let at : IsOnOne x (changed_by (x.place + 1) (Entry.Outcome lease.number lease.token Reply.Doubt before after) x) name s s' =
-      on_one (Entry.Outcome lease.number lease.token Reply.Doubt before after) x name s h.orderly.own refl at_work in
+      let e : Entry = Entry.Outcome lease.number lease.token Reply.Doubt before after in
+      let at = on_one e x name s h.orderly.own refl at_work in
+      let same = in_doubt (x.place + 1) lease.number lease.token before after s in
       record {
-        agrees = subst (λ c. Agrees c (held_by life) (returned token ls)) (sym (doubt_moves life.entries x name s lease.number lease.token before after h.orderly.own at_work)) (return_keeps (told_in life) (held_by life) ls token h.agrees);
-        orderly = orderly_on x (Entry.Outcome lease.number lease.token Reply.Doubt before after) name s s' h.orderly tt at.one
-            (doubt_local x.stacks name s s' (once_here x.stacks (changed_by (x.place + 1) (Entry.Outcome lease.number lease.token Reply.Doubt before after) x).stacks name s s' at.one h.orderly.own) (in_doubt (x.place + 1) lease.number lease.token before after s)) at.lanes;
+        agrees = subst (λ c. Agrees c (held_by life) (returned token ls)) (sym (doubt_moves life.entries x name s lease.number lease.token before after h.orderly.own at_work))
+            (return_keeps (told_in life) (held_by life) ls token h.agrees);
+        orderly = orderly_on x e name s _ h.orderly tt at.one (doubt_local x.stacks name s _ (once_here at.one h.orderly.own) same) at.lanes;
       }
 
   -- the answer is for good
@@ -411,15 +314,13 @@ module _ (schemas : List Schema) (life : Life) (token : ℕ) (h : IsSound life) 
       → MayFollow schemas (world_of life) (tokens_out life) (Entry.Outcome lease.number lease.token answer_ before after) → IsBack (Entry.Outcome lease.number lease.token answer_ before after)
   by_good answer_ y before after g k (name, s, stage, at_work, at_stage, (out, is_open, counted)) =
       let x : World = fold_of empty_world life.entries in
-      let z : World = changed_by (x.place + 1) (Entry.Outcome lease.number lease.token answer_ before after) x in
-      let at0 : IsOnOne x z name s (effect_at (x.place + 1) (Entry.Outcome lease.number lease.token answer_ before after) s).stack =
-      on_one (Entry.Outcome lease.number lease.token answer_ before after) x name s h.orderly.own refl at_work in
+      let e : Entry = Entry.Outcome lease.number lease.token answer_ before after in
+      let z : World = changed_by (x.place + 1) e x in
       let (p, pending) = some_of (pending_of lease.token s) is_open in
       let o = open_as name p in
       let sf = answered_stack (x.place + 1) lease.number lease.token answer_ before after p s in
-      let at : IsOnOne x z name s sf = subst (λ q. IsOnOne x z name s (heard (x.place + 1) (Entry.Outcome lease.number lease.token answer_ before after) s (stays_listed (reply_of lease.token answer_ q s))).stack) pending at0 in
-      let (fr, bk) = at.unshared.tokens lease.token p pending in
-      let open_ = open_own x.stacks z.stacks name s sf at.one lease.token o fr (ap (option_map (open_as name)) pending) in
+      let at : IsOnOne x z name s sf = subst (λ q. IsOnOne x z name s (heard (x.place + 1) e s (stays_listed (reply_of lease.token answer_ q s))).stack) pending (on_one e x name s h.orderly.own refl at_work) in
+      let open_ = open_of at lease.token p pending in
       let (r, en, ry) = (h.agrees.leased).replies (lease_of lease) y mine.1 k in
       let fit = ((((h.agrees.leased).out (lease_of lease) mine.1).own).written (called_of o) (((h.agrees.tied).books).calls lease.token o open_)).0 in
       let is : IsSettledCall (told_in life) (held_by life) lease.token o r = (open_, subst (λ n. settled_under (held_by life) n lease.token ≡ Some r) (sym fit) en) in
@@ -428,7 +329,7 @@ module _ (schemas : List Schema) (life : Life) (token : ℕ) (h : IsSound life) 
       let kept = answer_keeps (told_in life) (held_by life) ls (lease_of lease) o y h.agrees mine.1 k open_ in
       record {
         agrees = subst (λ c. Agrees c (held_by life) (returned token ls)) (sym (moved ∙ ap (λ v. answered lease.token o v (told_in life)) ry)) (subst (λ t. Agrees (answered lease.token o y (told_in life)) (held_by life) (returned t ls)) (sym mine.0) kept);
-        orderly = orderly_on x (Entry.Outcome lease.number lease.token answer_ before after) name s sf h.orderly tt at.one
+        orderly = orderly_on x e name s sf h.orderly tt at.one
             (outcome_local life.entries x z (held_by life) name s p r (x.place + 1) lease.number lease.token answer_ before after h.orderly.own good h.agrees.tied is at
             (differ_left s _ p.path p.request answer_ (answered_left (is_restore lease.token s) p.path p.request answer_ s))) at.lanes;
       }
@@ -457,18 +358,13 @@ again_behind t (s ∷ ss) back n =
 
 pub again_is : (x : World) (name : List ℕ) (s : StackState) (at : IsOnOne x x name s s) (t : ℕ) (p : Pending) → find (has_token t) s.tokens ≡ Some p
     → first_again t x.stacks ≡ Some (lease_for s.operation p)
-again_is x name s at t p found = by at.one.was where
-  by : Stood x.stacks at.one.front at.one.back name s → first_again t x.stacks ≡ Some (lease_for s.operation p)
-  by (stands_there e) =
-      ap (first_again t) e ∙ again_behind t at.one.front ((name, s) ∷ at.one.back) (at.unshared.tokens t p found).0
-      ∙ ap (λ o. option_or (option_map (lease_for s.operation) o) (first_again t at.one.back)) found
-  by (is_new e k) = let no : find (has_token t) [] ≡ Some p = sym (ap (λ (q : StackState). find (has_token t) q.tokens) k) ∙ found in absurd (cc)
+again_is x name s at t p found = grind (arith, again_behind)
 
 -- a call that may be made again is open and not out
 pub may_again : (schemas : List Schema) (name : List ℕ) (x : World) (out : List ℕ) (s : StackState) (stage : Stage) (p : Pending) → MayRepeat schemas name x out s stage p → In p s.tokens × (is_in_flight out p.token ≡ false)
 may_again schemas name x out s stage p m = grind (arith, not-true)
 
-not_out : (token : ℕ) (ls : List Granted) → is_in_flight (map (λ (l : Granted). l.token) ls) token ≡ false → (l : CallOut) → InLane l (map lease_of ls) → l.token ≢ token
+not_out : (token : ℕ) (ls : List Granted) → is_in_flight (map (λ (l : Granted). l.token) ls) token ≡ false → (l : CallOut) → In l (map lease_of ls) → l.token ≢ token
 not_out token [] h l i = elim i [ ]
 not_out token (k ∷ ls) h l i = elim (in_cons l (lease_of k) (map lease_of ls) i) [
   | inl m ↦ (λ z. let e : token ≡ k.token = sym z ∙ ap (λ (q : CallOut). q.token) m in absurd (grind arith))
@@ -482,29 +378,20 @@ repeat_keeps schemas life token (running, name, s, stage, p, m) h =
     let (q, pending) = is_found_in (has_token token) s.tokens p is.0 (eq-eqb token p.token (sym m.of_token)) in
     let o : Open = open_as name q in
     let at : IsOnOne x x name s s = stands_on x name s h.orderly.own m.stands in
-    let open_ : open_in x.stacks token ≡ Some o =
-    open_own x.stacks x.stacks name s s at.one token o (at.unshared.tokens token q pending).0 (ap (option_map (open_as name)) pending) in
+    let open_ = open_of at token q pending in
     let written : (told_in life).call token ≡ Some (called_of o) = (((h.agrees).tied).books).calls token o open_ in
     let out : IsOut (told_in life) q.lane token q.request = record {
-      own = record {
-        number = (((h.agrees).tied).books).numbers token (called_of o) written;
-        written = λ c e. let same : called_of o ≡ c = cc in (ap (λ (q : Called). q.lane) (sym same), ap (λ (q : Called). q.request) (sym same));
-      };
+      own = grind (arith, h.agrees.tied.books.numbers);
       accounted = inl (o, open_);
-      going = λ v e. let same : o ≡ v = cc in
-          ap (λ (q : Open). resting_in x.stacks q.stack) (sym same) ∙ ap (λ z. option_map_or is_at_rest z false) m.stands ∙ ap (λ c. not c && is_opened_since s) (ap is_some m.at_stage);
+      going = grind (arith, m.stands, m.at_stage);
     } in
     let ls : List CallOut = map lease_of life.leases in
     let lease : Granted = lease_for s.operation q in
     let ends : ls ++ record { token = token; lane = q.lane; request = q.request; reply = None } ∷ [] ≡ map lease_of (life.leases ++ lease ∷ []) =
-    ap (λ t. ls ++ record { token = t; lane = q.lane; request = q.request; reply = None } ∷ []) (token_of token s.tokens q pending) ∙ sym (more_leases life.leases lease) in
+    ap (λ t. ls ++ record { token = t; lane = q.lane; request = q.request; reply = None } ∷ []) (token_of token s.tokens q pending) ∙ sym
+    (map-append lease_of life.leases (lease ∷ [])) in
     subst (λ q. IsSound (repeated q life)) (sym (again_is x name s at token q pending)) (record {
-      agrees = record {
-        tied = (h.agrees).tied;
-        leased = subst (AreLeased (told_in life) (lanes_of life.lanes)) ends
-            (leased_granted (told_in life) (told_in life) (lanes_of life.lanes) ls (h.agrees).leased token q.lane q.request (λ l i x. x)
-            (not_out token life.leases (ap (is_in_flight (tokens_out life)) (sym m.of_token) ∙ is.1)) out);
-      };
+      agrees = grind (arith, leased_granted, not_out, h.agrees.tied, h.agrees.leased, m.of_token);
       orderly = h.orderly;
     })
 
@@ -515,9 +402,7 @@ held_is_live life name s r h stands none held =
     let b : Books (told_in life) = (h.agrees.tied).books in
     let t : Ties (told_in life) (held_by life) = (h.agrees.tied).ties in
     let at : IsOnOne (world_of life) (world_of life) name s s = stands_on (world_of life) name s h.orderly.own stands in
-    let role : (told_in life).role r.physical ≡ Resource (thing_of name r) =
-    role_here (world_of life).stacks (world_of life).stacks name s s at.one r.physical (thing_of name r) (at.unshared.roles r.physical r held).0
-    (ap (λ o. role_found name o (has_leftover r.physical s.leftovers)) held) in
+    let role = role_of at r.physical r held in
     let home : IsOfLane (lane_of r.physical) r.physical × ((told_in life).named (lane_of r.physical) ≡ Some r.kind) = b.homes r.physical (thing_of name r) role in
     let there_ : IsThere (held_by life) (lane_of r.physical) = (r.kind, t.handed (lane_of r.physical) r.kind home.1) in
     -- no open call names it
@@ -535,9 +420,5 @@ held_is_live life name s r h stands none held =
     let same : r.unsure ≡ false → ((v.0).props ≡ r.props) × ((v.0).attrs ≡ r.attrs) = λ sure. t.same r.physical (thing_of name r) v.0 role (ap not sure) (λ (u, o, q, x, y, is, d). not_named u o is.0 (ap named_by (request_of (told_in life) (held_by life) b t u o q is) ∙ set_names q.request q.settlement r.physical x y d)) v.1 in
     let lane : (l : Lane) × (lane_at (lane_of r.physical) life.lanes ≡ Some l) = map_some (lane_at (lane_of r.physical) life.lanes) r.kind there_.1 in
     let name_is : lane_of r.physical ≡ (lane.0).name = found_name (lane_of r.physical) (λ l. l) (lane_of r.physical) life.lanes lane.0 lane.1 in
-    let is_live : IsLive life.lanes r v.0 = record {
-      lane = lane.0;
-      home = record { handed_in = ap (λ n. lane_at n life.lanes) (sym name_is) ∙ lane.1; named = subst (λ n. IsOfLane n r.physical) name_is home.0 };
-      live = ap (live_at r.physical) (sym (there_is life.lanes (lane_of r.physical) lane.0 lane.1).1) ∙ v.1;
-    } in
+    let is_live : IsLive life.lanes r v.0 = grind (arith, there_is) in
     (v.0, is_live, v.2, λ sure. same sure)

@@ -1,6 +1,6 @@
 -- What one more entry tells of calls and answers, and of all stacks, where one of them changes.
 use Rattle.std.proofs.Common.{◌≡◌, ℕ, true, List, [], ◌∷◌, ◌++◌, Option, Some, None, refl, ap, ◌+◌, false, Bool, sym, subst, ◌∙◌, true≢false, ◌||◌, ◌==◌, ◌≢◌, ◌⊎◌, inl, inr, find, unwrap_or, map, filter_map, arith}
-use Rattle.cf_core.proofs.Words.{Account, AreOwn, AreUnshared, Begun, Books, Entry, Export, Held, In, IntentMoves, IsLocal, IsOnce, StacksByName, OneIsPut, OneStack, Open, OpeningMoves, OwnKept, Pending, Resource, Response, Role, StackState, Stood, Stranger, Thing, World, account_of, ascends, bytes_eq, call_in, called_of, changed_by, effect_at, effect_of, for_good, has_leftover, has_token, heard, held_in, here, is_at_rest, is_going, is_in_progress, is_opening, known_stack, lost_in, lost_on, lane_types, new, no_stack, open_as, open_in, open_on, opening_heard, option_map_or, option_or, put, replies_in, reply_in, resting_in, role_found, role_in, role_on, role_or, second_so, stack_at, stack_for, stack_of_operation, there as there_, told_among, told_in, value_at}
+use Rattle.cf_core.proofs.Words.{Account, AreOwn, AreUnshared, Begun, Books, Entry, Export, Held, In, IntentMoves, IsLocal, IsOnce, StacksByName, OneIsPut, OneStack, Open, OpeningMoves, OwnKept, Pending, Resource, Response, Role, StackState, Stood, Stranger, Thing, World, account_of, ascends, bytes_eq, call_in, called_of, changed_by, effect_at, effect_of, has_leftover, has_token, heard, held_in, here, is_at_rest, is_going, is_in_progress, is_opening, known_stack, lost_in, lost_on, lane_types, new, no_stack, open_as, open_in, open_on, opening_heard, option_map_or, option_or, put, replies_in, reply_in, resting_in, role_found, role_in, role_on, role_or, stack_for, stack_of_operation, there as there_, thing_of, told_among, told_in, value_at, world_after}
 use Rattle.cf_core.proofs.Lemmas.{at_other, at_same, bytes_or, filter_map-append, find-append, found_passes, found_stands, if_other, if_same, in_back, in_cons, in_either, in_front, list_any-append, number_or, tail_ascends, value_below}
 use Rattle.cf_agree.proofs.Words.{bytes_same, same_bytes}
 use Rattle.cf_core.specs.OneStack.{there}
@@ -15,12 +15,10 @@ use Rattle.cf_effect.specs.Listed.{exports_after}
 
 -- by what a test is, and by what is found
 pub on_bool : {P : Type 0} (b : Bool) → (b ≡ true → P) → (b ≡ false → P) → P
-on_bool true f g = f refl
-on_bool false f g = g refl
+on_bool v0 f g = grind arith
 
 pub on_option : {A P : Type 0} (o : Option A) → (o ≡ None → P) → ((a : A) → o ≡ Some a → P) → P
-on_option None f g = f refl
-on_option (Some a) f g = g a refl
+on_option v0 f g = grind arith
 
 pub on_list : {A P : Type 0} (xs : List A) → (xs ≡ [] → P) → ((x : A) (ys : List A) → xs ≡ x ∷ ys → P) → P
 on_list [] f g = f refl
@@ -28,27 +26,17 @@ on_list (x ∷ ys) f g = g x ys refl
 
 -- What is read of all stacks, where one of them changes.
 
-or_assoc : (a b c : Role) → role_or (role_or a b) c ≡ role_or a (role_or b c)
-or_assoc a b c = grind arith
-
 pub role_split : (xs ys : StacksByName) (i : List ℕ) → role_in (xs ++ ys) i ≡ role_or (role_in xs i) (role_in ys i)
 role_split [] ys i = refl
-role_split (x ∷ xs) ys i = cc (role_split xs ys i, or_assoc (role_on x.0 x.1 i) (role_in xs i) (role_in ys i))
-
-option_assoc : {A : Type 0} (a b c : Option A) → option_or (option_or a b) c ≡ option_or a (option_or b c)
-option_assoc a b c = grind arith
+role_split (x ∷ xs) ys i = grind (arith, role_split xs ys i)
 
 pub open_split : (xs ys : StacksByName) (t : ℕ) → open_in (xs ++ ys) t ≡ option_or (open_in xs t) (open_in ys t)
 open_split [] ys t = refl
-open_split (x ∷ xs) ys t = cc (open_split xs ys t, option_assoc (open_on x.0 x.1 t) (open_in xs t) (open_in ys t))
+open_split (x ∷ xs) ys t = grind (arith, open_split xs ys t)
 
 pub value_split : (n : List ℕ) (xs ys : StacksByName) → value_at n (xs ++ ys) ≡ option_or (value_at n xs) (value_at n ys)
 value_split n [] ys = refl
 value_split n (x ∷ xs) ys = let ih = value_split n xs ys in grind arith
-
--- a resource is of a stack that is there
-found_stack : (name : List ℕ) (o : Option Held) (b : Bool) (r : Thing) → role_found name o b ≡ Resource r → r.stack ≡ name
-found_stack name o b r e = grind arith
 
 pub or_stranger : (a b : Role) → role_or a b ≡ Stranger → (a ≡ Stranger) × (b ≡ Stranger)
 or_stranger a b e = grind arith
@@ -69,17 +57,14 @@ on_it x xs n k e = grind (arith, same_bytes)
 of_stack : (xs : StacksByName) (i : List ℕ) (r : Thing) → role_in xs i ≡ Resource r → value_at r.stack xs ≢ None
 of_stack [] i r e = absurd (cc)
 of_stack (x ∷ xs) i r e = on_it x xs r.stack (elim (or_resource (role_on x.0 x.1 i) (role_in xs i) r e) [
-  | inl k ↦ inl (found_stack x.0 (held_in i x.1) (has_leftover i x.1.leftovers) r k)
+  | inl k ↦ inl (grind arith)
   | inr k ↦ inr (of_stack xs i r k.1)
 ])
-
-of_open : (n : List ℕ) (q : Option Pending) (o : Open) → option_map (open_as n) q ≡ Some o → o.stack ≡ n
-of_open n q o e = grind arith
 
 open_stack : (xs : StacksByName) (t : ℕ) (o : Open) → open_in xs t ≡ Some o → value_at o.stack xs ≢ None
 open_stack [] t o e = absurd (cc)
 open_stack (x ∷ xs) t o e = on_it x xs o.stack (elim (or_some (open_on x.0 x.1 t) (open_in xs t) o e) [
-  | inl k ↦ inl (of_open x.0 (find (has_token t) x.1.tokens) o k)
+  | inl k ↦ inl (grind arith)
   | inr k ↦ inr (open_stack xs t o k.1)
 ])
 
@@ -97,7 +82,7 @@ rest_new : (n name : List ℕ) (front back : StacksByName) → value_at name fro
     ≡ option_map_or is_at_rest (option_or (value_at n front) (value_at n back)) false
 rest_new n name front back f b = grind (arith, bytes_or, if_same, if_other)
 
-module _ (ss ss' : StacksByName) (name : List ℕ) (s s' : StackState) (f : OneStack ss ss' name s s') where
+module _ {ss ss' : StacksByName} {name : List ℕ} {s s' : StackState} (f : OneStack ss ss' name s s') where
   role_was : (i : List ℕ) → role_in ss i ≡ role_or (role_in f.front i) (role_or (role_on name s i) (role_in f.back i))
   role_was i = grind (arith, role_split, blank_role)
 
@@ -109,32 +94,15 @@ module _ (ss ss' : StacksByName) (name : List ℕ) (s s' : StackState) (f : OneS
 
   -- an id that is a stranger is so to each stack
   pub role_stranger : (i : List ℕ) → role_in ss i ≡ Stranger → (role_in f.front i ≡ Stranger) × (role_on name s i ≡ Stranger) × (role_in f.back i ≡ Stranger)
-  role_stranger i e =
-      let x = or_stranger (role_in f.front i) (role_or (role_on name s i) (role_in f.back i)) (sym (role_was i) ∙ e) in
-      let y = or_stranger (role_on name s i) (role_in f.back i) x.1 in (x.0, y.0, y.1)
+  role_stranger i e = grind (arith, or_stranger, role_was)
 
-  pub role_made : (i : List ℕ) (t : Thing) → role_in ss i ≡ Stranger → role_on name s' i ≡ Resource t → role_in ss' i ≡ Resource t
-  role_made i t e k = cc (role_now i, (role_stranger i e).0)
+  -- where no other stack knows an id, its role is that on this one
+  pub role_alone : (i : List ℕ) → role_in f.front i ≡ Stranger → role_in f.back i ≡ Stranger → role_in ss' i ≡ role_on name s' i
+  role_alone i a b = grind (arith, role_now)
 
   -- a resource of this stack is found there
   pub role_own : (i : List ℕ) (r : Thing) → role_in ss i ≡ Resource r → r.stack ≡ name → (role_in f.front i ≡ Stranger) × (role_on name s i ≡ Resource r)
-  role_own i r e n = elim (or_resource (role_in f.front i) (role_or (role_on name s i) (role_in f.back i)) r (sym (role_was i) ∙ e)) [
-    | inl k ↦ absurd (of_stack f.front i r k (ap (λ m. value_at m f.front) n ∙ f.before))
-    | inr k ↦ elim (or_resource (role_on name s i) (role_in f.back i) r k.1) [
-      | inl l ↦ (k.0, l)
-      | inr l ↦ absurd (of_stack f.back i r l.1 (ap (λ m. value_at m f.back) n ∙ f.behind))
-    ]
-  ]
-
-  pub role_set : (i : List ℕ) (r t : Thing) → role_in ss i ≡ Resource r → r.stack ≡ name → role_on name s' i ≡ Resource t → role_in ss' i ≡ Resource t
-  role_set i r t e n k = cc (role_now i, (role_own i r e n).0)
-
-  pub role_taken : (i : List ℕ) (r : Thing) → role_in ss i ≡ Resource r → r.stack ≡ name → role_on name s' i ≡ Stranger → role_in f.back i ≡ Stranger → role_in ss' i ≡ Stranger
-  role_taken i r e n k b = cc (role_now i, (role_own i r e n).0)
-
-  -- what the stack holds is that to all, where the stacks before it know nothing of the id
-  pub role_here : (i : List ℕ) (r : Thing) → role_in f.front i ≡ Stranger → role_on name s i ≡ Resource r → role_in ss i ≡ Resource r
-  role_here i r x y = cc (role_was i)
+  role_own i r e n = grind (arith, or_resource, role_was, of_stack)
 
   pub open_was : (t : ℕ) → open_in ss t ≡ option_or (open_in f.front t) (option_or (open_on name s t) (open_in f.back t))
   open_was t = grind (arith, open_split)
@@ -146,9 +114,7 @@ module _ (ss ss' : StacksByName) (name : List ℕ) (s s' : StackState) (f : OneS
   open_same t e = cc (open_now t, open_was t)
 
   pub open_none : (t : ℕ) → open_in ss t ≡ None → (open_in f.front t ≡ None) × (open_on name s t ≡ None)
-  open_none t e =
-      let x = or_none (open_in f.front t) (option_or (open_on name s t) (open_in f.back t)) (sym (open_was t) ∙ e) in
-      (x.0, (or_none (open_on name s t) (open_in f.back t) x.1).0)
+  open_none t e = grind (arith, or_none, open_was)
 
   pub open_new : (t : ℕ) (o : Open) → open_in ss t ≡ None → open_on name s' t ≡ Some o → open_in ss' t ≡ Some o
   open_new t o e k = cc (open_now t, (open_none t e).0)
@@ -156,15 +122,9 @@ module _ (ss ss' : StacksByName) (name : List ℕ) (s s' : StackState) (f : OneS
   pub open_closed : (t : ℕ) → open_in f.front t ≡ None → open_on name s' t ≡ None → open_in f.back t ≡ None → open_in ss' t ≡ None
   open_closed t x y z = cc (open_now t)
 
-  pub open_own : (t : ℕ) (o : Open) → open_in f.front t ≡ None → open_on name s t ≡ Some o → open_in ss t ≡ Some o
-  open_own t o x y = cc (open_was t)
-
   -- a call that is not open on this stack is of another
   pub open_not_own : (t : ℕ) (o : Open) → open_in ss t ≡ Some o → open_on name s t ≡ None → o.stack ≢ name
-  open_not_own t o e n k = elim (or_some (open_in f.front t) (option_or (open_on name s t) (open_in f.back t)) o (sym (open_was t) ∙ e)) [
-    | inl x ↦ open_stack f.front t o x (ap (λ m. value_at m f.front) k ∙ f.before)
-    | inr x ↦ open_stack f.back t o (cc) (ap (λ m. value_at m f.back) k ∙ f.behind)
-  ]
+  open_not_own t o e n k = grind (arith, or_some, open_was, open_stack)
 
   pub lost_same : (t : ℕ) → lost_on s' t ≡ lost_on s t → lost_in ss' t ≡ lost_in ss t
   lost_same t e = grind (arith, list_any-append)
@@ -244,11 +204,7 @@ none_held s i h k e = let z = ap (held_in i) k in absurd (cc)
 none_called : {P : Type 0} (s : StackState) (t : ℕ) (v : Pending) → s ≡ no_stack → find (has_token t) s.tokens ≡ Some v → P
 none_called s t v k e = let z = ap (λ (q : StackState). find (has_token t) q.tokens) k in absurd (cc)
 
-module _ (ss ss' : StacksByName) (name : List ℕ) (s s' : StackState) (f : OneStack ss ss' name s s') where
-  -- the others, and the stack itself where it is no new one
-  in_ahead : (q : List ℕ × StackState) → In q f.front → In q ss
-  in_ahead q i = grind (arith, in_front)
-
+module _ {ss ss' : StacksByName} {name : List ℕ} {s s' : StackState} (f : OneStack ss ss' name s s') where
   in_behind : (q : List ℕ × StackState) → In q f.back → In q ss
   in_behind q i = elim f.was [
     | there e ↦ rw e (in_back q f.front ((name, s) ∷ f.back) (there_ i))
@@ -259,29 +215,14 @@ module _ (ss ss' : StacksByName) (name : List ℕ) (s s' : StackState) (f : OneS
   stands_or = elim f.was [ there e ↦ inl (rw e (in_back (name, s) f.front ((name, s) ∷ f.back) here)) | new e k ↦ inr k ]
 
   member : (p : List ℕ × StackState) → In p ss' → ((name, s') ≡ p) ⊎ (In p ss × (name ≢ p.0))
-  member p i = elim (in_either p f.front ((name, s') ∷ f.back) (rw f.now at i)) [
-    | inl j ↦ inr (in_ahead p j, named_not name f.front p f.before j)
-    | inr j ↦ elim (in_cons j) [
-      | inl e ↦ inl e
-      | inr e ↦ inr (in_behind p e, named_not name f.back p f.behind e)
-    ]
-  ]
+  member p i = grind (arith, in_either, in_front, named_not, in_cons, in_behind)
 
   -- what tells two stacks of different names apart tells the one that changes and another apart
   told_apart : (P Q : List ℕ × StackState → Type 0) → ((p q : List ℕ × StackState) → In p ss → In q ss → p.0 ≢ q.0 → P p → Q q)
       → ((q : List ℕ × StackState) → In q ss → name ≢ q.0 → P (name, s') → Q q)
       → ((p : List ℕ × StackState) → In p ss → name ≢ p.0 → P p → Q (name, s'))
       → (p q : List ℕ × StackState) → In p ss' → In q ss' → p.0 ≢ q.0 → P p → Q q
-  told_apart P Q both now then p q j m n k = elim (member p j) [
-    | inl e ↦ elim (member q m) [
-      | inl g ↦ absurd (n (ap (λ (z : List ℕ × StackState). z.0) (sym e ∙ g)))
-      | inr g ↦ now q g.0 g.1 (subst P (sym e) k)
-    ]
-    | inr e ↦ elim (member q m) [
-      | inl g ↦ subst Q g (then p e.0 e.1 k)
-      | inr g ↦ both p q e.0 g.0 n k
-    ]
-  ]
+  told_apart P Q both now then p q j m n k = grind (arith, member)
 
   module _ (own : AreOwn ss) where
     held_here : (i : List ℕ) (h : Held) (q : List ℕ × StackState) → held_in i s ≡ Some h → In q ss → name ≢ q.0 → role_on q.0 q.1 i ≡ Stranger
@@ -294,31 +235,21 @@ module _ (ss ss' : StacksByName) (name : List ℕ) (s s' : StackState) (f : OneS
     called_here t v q e j n = elim stands_or [ inl m ↦ own.tokens (name, s) q t v m j n e | inr k ↦ none_called s t v k e ]
 
     pub once_here : IsOnce s
-    once_here = elim stands_or [
-      | inl m ↦ own.once (name, s) m
-      | inr k ↦ subst IsOnce (sym k) (record { ids = refl; left = λ i h e. none_held no_stack i h refl e; tokens = refl })
-    ]
+    once_here = grind (arith, stands_or, none_held, own.once)
 
     pub unshared_of : AreUnshared f.front f.back s
     unshared_of = record {
       left = once_here.left;
       roles = λ i h e. (
-        all_strangers f.front i (λ q j. held_here i h q e (in_ahead q j) (named_not name f.front q f.before j)),
+        all_strangers f.front i (λ q j. held_here i h q e (grind (arith, in_front)) (named_not name f.front q f.before j)),
         all_strangers f.back i (λ q j. held_here i h q e (in_behind q j) (named_not name f.back q f.behind j)),
       );
-      tokens = λ t p e. (
-        all_closed f.front t (λ q j. called_here t p q e (in_ahead q j) (named_not name f.front q f.before j)),
-        all_closed f.back t (λ q j. called_here t p q e (in_behind q j) (named_not name f.back q f.behind j)),
-      );
+      tokens = grind (arith, all_closed, called_here, in_front, named_not, in_behind);
     }
 
     module _ (l : IsLocal ss name s s') where
       by_token : (t : ℕ) (v : Pending) (p : List ℕ × StackState) → In p ss → name ≢ p.0 → find (has_token t) (p.1).tokens ≡ Some v → (o : Option Pending) → find (has_token t) s'.tokens ≡ o → o ≡ None
-      by_token t v p j n k None g = refl
-      by_token t v p j n k (Some u) g = elim (l.tokens t u g) [
-        | inl c ↦ (let z = called_here t c.0 p c.1 j n in absurd (cc))
-        | inr c ↦ (let z = c p j in absurd (cc))
-      ]
+      by_token t v p j n k v6 g = grind (arith, called_here)
 
       still_own : ascends ss' ≡ true → AreOwn ss'
       still_own sorted = record {
@@ -333,7 +264,7 @@ module _ (ss ss' : StacksByName) (name : List ℕ) (s s' : StackState) (f : OneS
       }
 
 pub own_kept : OwnKept
-own_kept ss ss' name s s' f l sorted own = still_own ss ss' name s s' f own l sorted
+own_kept ss ss' name s s' f l sorted own = still_own f own l sorted
 
 pub option_end : {A : Type 0} (o : Option A) → option_or o None ≡ o
 option_end o = grind arith
@@ -348,7 +279,7 @@ call_same es e t n = cc (call_more es e t, option_end (call_at t es))
 told_append : (rs qs : List Response) (t : ℕ) → told_among (rs ++ qs) t ≡ option_or (told_among rs t) (told_among qs t)
 told_append [] qs t = refl
 told_append (r ∷ rs) qs t =
-    cc (told_append rs qs t, option_assoc (cond (t == r.token) (for_good r.answer) None) (told_among rs t) (told_among qs t))
+    grind (arith, told_append rs qs t)
 
 pub told_more : (es : List Entry) (e : Entry) (t : ℕ) → told_in (es ++ e ∷ []) t ≡ option_or (told_in es t) (told_in (e ∷ []) t)
 told_more es e t = ap (λ rs. told_among rs t) (filter_map-append reply_in es (e ∷ [])) ∙ told_append (replies_in es) (replies_in (e ∷ [])) t
@@ -385,27 +316,23 @@ pub record IsLeft (x y : World) (e : Entry) (o : Found) : Type 0 where
 pub left_of : (e : Entry) (x : World) → is_opening e ≡ false → IsLeft x (changed_by (x.place + 1) e x) e (stack_for e x)
 left_of e x n = grind arith
 
+pub stacks_after : (x : World) (e : Entry) → (world_after x e).stacks ≡ (changed_by (x.place + 1) e x).stacks
+stacks_after x e = grind arith
+
 abbrev named : List ℕ → StackState → List ℕ × StackState
 named to t = (to, t)
 
 -- the stack that it is of is the known one of its name
 module _ (x : World) (sorted : ascends x.stacks ≡ true) (name : List ℕ) (s : StackState) where
-  by_number : (number : ℕ) → stack_of_operation number x ≡ Some (name, s) → known_stack name x ≡ s
-  by_number number h = ap (λ o. unwrap_or o no_stack) (found_stands (λ (p : List ℕ × StackState). is_going number p.1) x.stacks (name, s) sorted h)
-
   by_known : (to : List ℕ) → Some (named to (known_stack to x)) ≡ Some (named name s) → known_stack name x ≡ s
-  by_known to h = let same : named to (known_stack to x) ≡ named name s = ap (λ o. unwrap_or o (named name s)) h in
-      ap (λ (p : List ℕ × StackState). known_stack p.0 x) (sym same) ∙ ap (λ (p : List ℕ × StackState). p.1) same
-
-  by_stands : (to : List ℕ) (o : Option StackState) → stack_at to x ≡ o → option_map (named to) o ≡ Some (named name s) → known_stack name x ≡ s
-  by_stands to o e h = grind (arith, unwrap_or)
+  by_known to h = grind arith
 
   pub known_for : (e : Entry) → stack_for e x ≡ Some (name, s) → known_stack name x ≡ s
   known_for (Entry.Opened epoch lanes) h = absurd (cc)
   known_for (Entry.Begin n to (Begun.Create source)) h = by_known to h
-  known_for (Entry.Begin n to k) h = by_stands to (stack_at to x) refl h
+  known_for (Entry.Begin n to k) h = grind (arith, unwrap_or)
   known_for (Entry.ChangeSet n to from rows outputs) h = by_known to h
-  known_for e h = by_number _ h
+  known_for e h = ap (λ o. unwrap_or o no_stack) (found_stands (λ (p : List ℕ × StackState). is_going _ p.1) x.stacks (name, s) sorted h)
 
 -- What an entry changes of all stacks: this one alone, which shares nothing with the others.
 pub record IsOnOne (x y : World) (name : List ℕ) (s s' : StackState) : Type 0 where
@@ -415,6 +342,14 @@ pub record IsOnOne (x y : World) (name : List ℕ) (s s' : StackState) : Type 0 
   pub epoch : y.epoch ≡ x.epoch
   pub token : y.token ≡ x.token
 
+-- what the stack holds, and a call that is open on it, are that to all
+module _ {x y : World} {name : List ℕ} {s s' : StackState} (at : IsOnOne x y name s s') where
+  pub role_of : (i : List ℕ) (h : Held) → held_in i s ≡ Some h → role_in x.stacks i ≡ Resource (thing_of name h)
+  role_of i h e = cc (role_was at.one i, (at.unshared.roles i h e).0)
+
+  pub open_of : (t : ℕ) (p : Pending) → find (has_token t) s.tokens ≡ Some p → open_in x.stacks t ≡ Some (open_as name p)
+  open_of t p e = cc (open_was at.one t, (at.unshared.tokens t p e).0)
+
 pub on_one : (e : Entry) (x : World) (name : List ℕ) (s : StackState) → AreOwn x.stacks → is_opening e ≡ false → stack_for e x ≡ Some (name, s) → IsOnOne x (changed_by (x.place + 1) e x) name s (effect_at (x.place + 1) e s).stack
 on_one e x name s own o h =
     let y : World = changed_by (x.place + 1) e x in
@@ -423,7 +358,7 @@ on_one e x name s own o h =
     let one : OneStack x.stacks y.stacks name s s' =
     subst (λ ss. OneStack x.stacks ss name s s') (sym (left.stacks ∙ ap (put_by x e) h))
     (subst (λ t. OneStack x.stacks (put name s' x.stacks) name t s') (known_for x own.names name s e h) (one_is_put x.stacks name s' own.names)) in
-    record { one = one; unshared = unshared_of x.stacks y.stacks name s s' one own; lanes = left.lanes; epoch = left.epoch; token = left.token }
+    record { one = one; unshared = unshared_of one own; lanes = left.lanes; epoch = left.epoch; token = left.token }
 
 -- a stack that is there, in its place
 pub stands_on : (x : World) (name : List ℕ) (s : StackState) → AreOwn x.stacks → value_at name x.stacks ≡ Some s → IsOnOne x x name s s
@@ -434,35 +369,28 @@ stands_on x name s own h = by put_in put_in.was where
   by : (f : OneStack x.stacks (put name s x.stacks) name s s) → Stood x.stacks f.front f.back name s → IsOnOne x x name s s
   by f (there e) =
       let one : OneStack x.stacks x.stacks name s s = record { front = f.front; back = f.back; was = there e; now = e; before = f.before; behind = f.behind } in
-      record { one = one; unshared = unshared_of x.stacks x.stacks name s s one own; lanes = refl; epoch = refl; token = refl }
+      record { one = one; unshared = unshared_of one own; lanes = refl; epoch = refl; token = refl }
   by f (new e k) = let e2 = value_split name f.front f.back in let b = f.before in let d = f.behind in absurd (cc)
 
 -- an operation that is found is in progress
 pub is_working : (number : ℕ) (x : World) (name : List ℕ) (s : StackState) → stack_of_operation number x ≡ Some (name, s) → is_in_progress s.status ≡ true
-is_working number x name s h =
-    second_so (s.operation == number) (is_in_progress s.status) (found_passes (λ (p : List ℕ × StackState). is_going number p.1) x.stacks (name, s) h)
+is_working number x name s h = grind (arith, found_passes)
 
 -- An opening and an Intent move the account.
 
 pub opening_moves : OpeningMoves
 opening_moves es x epoch lanes next =
     let e : Entry = Entry.Opened epoch lanes in
-    same_account _ _ (roles x.stacks) (opens x.stacks) (lost x.stacks) (λ t. call_same es e t refl) (λ t. told_same es e t refl) (λ n. refl) (λ n. refl) refl next
+    let (roles, opens, lost) = same x.stacks in
+    same_account _ _ roles opens lost (λ t. call_same es e t refl) (λ t. told_same es e t refl) (λ n. refl) (λ n. refl) refl next
   where
     heard : List ℕ × StackState → List ℕ × StackState
     heard = opening_heard (x.place + 1) (Entry.Opened epoch lanes)
 
-    roles : (ss : StacksByName) (i : List ℕ) → role_in (map heard ss) i ≡ role_in ss i
-    roles [] i = refl
-    roles (s ∷ ss) i = ap (role_or (role_on s.0 s.1 i)) (roles ss i)
-
-    opens : (ss : StacksByName) (t : ℕ) → open_in (map heard ss) t ≡ open_in ss t
-    opens [] t = refl
-    opens (s ∷ ss) t = ap (option_or (open_on s.0 s.1 t)) (opens ss t)
-
-    lost : (ss : StacksByName) (t : ℕ) → lost_in (map heard ss) t ≡ lost_in ss t
-    lost [] t = refl
-    lost (s ∷ ss) t = ap (λ b. lost_on s.1 t || b) (lost ss t)
+    same : (ss : StacksByName) → ((i : List ℕ) → role_in (map heard ss) i ≡ role_in ss i) × ((t : ℕ) → open_in (map heard ss) t ≡ open_in ss t)
+        × ((t : ℕ) → lost_in (map heard ss) t ≡ lost_in ss t)
+    same [] = (λ i. refl, λ t. refl, λ t. refl)
+    same (s ∷ ss) = let (r, o, l) = same ss in (λ i. ap (role_or (role_on s.0 s.1 i)) (r i), λ t. ap (option_or (open_on s.0 s.1 t)) (o t), λ t. ap (λ b. lost_on s.1 t || b) (l t))
 
 -- what is in progress is not at rest
 pub not_resting : (s t : StackState) → is_in_progress s.status ≡ true → t.status ≡ s.status → is_at_rest t ≡ is_at_rest s
@@ -502,22 +430,21 @@ intent_moves es x name s number token lane path r own found next b =
     let f : OneStack x.stacks y.stacks name s s' = at.one in
     let p : Pending = record { token = token; path = path; lane = lane; request = r } in
     let o : Open = record { stack = name; path = path; lane = lane; request = r } in
-    let none_called : call_in es (x.token + 1) ≡ None =
-    on_option (call_in es (x.token + 1)) (λ k. k) (λ c k. let l = b.numbers (x.token + 1) c k in absurd (omega arith)) in
+    let none_called = on_option (call_in es (x.token + 1)) (λ k. k) (λ c k. let l = b.numbers (x.token + 1) c k in absurd (omega arith)) in
     let none_here : find (has_token token) s.tokens ≡ None =
-    map_none (open_as name) (find (has_token token) s.tokens) (open_none x.stacks y.stacks name s s' f token (ap (open_in x.stacks) next ∙ none_open es x b)).1 in
+    map_none (open_as name) (find (has_token token) s.tokens) (open_none f token (ap (open_in x.stacks) next ∙ none_open es x b)).1 in
     let sent : Sends p s s' = sends (x.place + 1) number p s none_here in
     let new_on : (t : ℕ) → open_on name s' t ≡ option_map (open_as name) (option_or (find (has_token t) s.tokens) (cond (t == token) (Some p) None)) =
     λ t. cc (sent.tokens, find-append (has_token t) s.tokens (p ∷ [])) in
     let opens : (t : ℕ) → open_in y.stacks t ≡ cond (t == x.token + 1) (Some o) (open_in x.stacks t) = λ t. elim (number_or t (x.token + 1)) [
-      | inl k ↦ open_new x.stacks y.stacks name s s' f t o (ap (open_in x.stacks) k ∙ none_open es x b) (cc (new_on t, none_here, at_same t token (Some p) None (k ∙ sym next)))
+      | inl k ↦ open_new f t o (ap (open_in x.stacks) k ∙ none_open es x b) (cc (new_on t, none_here, at_same t token (Some p) None (k ∙ sym next)))
           ∙ sym (at_same t (x.token + 1) (Some o) (open_in x.stacks t) k)
-      | inr k ↦ open_same x.stacks y.stacks name s s' f t (cc (new_on t, at_other t token (Some p) None (λ j. k (j ∙ next)), option_end (find (has_token t) s.tokens)))
+      | inr k ↦ open_same f t (cc (new_on t, at_other t token (Some p) None (λ j. k (j ∙ next)), option_end (find (has_token t) s.tokens)))
           ∙ sym (at_other t (x.token + 1) (Some o) (open_in x.stacks t) k)
     ] in
     let calls : (t : ℕ) → call_in (es ++ e ∷ []) t ≡ cond (t == x.token + 1) (Some (called_of o)) (call_in es t) =
     λ t. grind (arith, number_or, call_more, map_none, none_called, at_other, option_end) in
-    same_account _ _ (λ i. role_same x.stacks y.stacks name s s' f i (role_alike name i s s' sent.held sent.made sent.leftovers)) opens
-    (λ t. lost_same x.stacks y.stacks name s s' f t (cc sent.abandoned))
-    calls (λ t. told_same es e t refl) (λ n. resting_same x.stacks y.stacks name s s' f n (not_resting s s' (is_working number x name s found) sent.status))
+    same_account _ _ (λ i. role_same f i (role_alike name i s s' sent.held sent.made sent.leftovers)) opens
+    (λ t. lost_same f t (cc sent.abandoned))
+    calls (λ t. told_same es e t refl) (λ n. resting_same f n (not_resting s s' (is_working number x name s found) sent.status))
     (λ n. ap (λ ls. lane_types ls n) at.lanes) next at.epoch

@@ -1,5 +1,5 @@
 -- What each entry leaves of the status of its stack.
-use Rattle.std.proofs.Common.{◌≡◌, ℕ, true, List, [], ◌∷◌, ◌++◌, Option, refl, ◌+◌, arith}
+use Rattle.std.proofs.Common.{◌≡◌, ℕ, true, List, [], ◌∷◌, ◌++◌, Option, refl, arith}
 use Rattle.cf_core.proofs.Words.{Begun, Cause, Entry, Pending, Phase, Reply, StackState, Status, Why, begun, effect_at, has_token, intending, is_in_progress, keeping, keeping_known, keeping_unknown, list_any, new_call, replying, turned}
 use Rattle.cf_core.proofs.Lemmas.{answered_left, either_way}
 

@@ -1,11 +1,11 @@
 -- What a completed stack holds is whole: it becomes so, stays so, and keeps what its status promises.
 use Rattle.std.proofs.Common.{arith, ◌≡◌, ◌⊎◌, inl, inr, ◌↔◌, ℕ, List, ◌∷◌, Bool, true, false, not, Some, refl, sym, ap, subst, ◌∙◌, true≢false, map, filter, find, ◌++◌, ◌&&◌, Option, None, ◌+◌, []}
-use Rattle.cf_core.proofs.Words.{AllDone, AreSameThings, AreSingle, BackIsRestored, BecomesBy, Begun, Cause, Clean, CleanupKeepsWhole, ClearedIsRestored, Code, CourseKeepsPromise, CreationIsWhole, DeletesSuperseded, EndsAs, Entry, Export, ExportsSame, Fits, HasFailed, Held, HeldIsFound, HeldStatus, HoldsWhole, In, IsAdvancing, IsAsItWas, IsAsSaid, IsHeldAtRest, IsDone, IsNoBegin, IsOnCourse, Known, MayFollow, MayFollowIn, MayFollowOn, MayKeep, MayTurn, Pending, Phase, Promised, Reply, Request, RestKeepsWhole, Right, Schema, ShapeIsKept, Source, StackState, Status, StaysAtRest, UpdateEndsAtRest, UpdateIsWhole, WholeIsComplete, Why, World, all_differ, answered, at_opening, begins_from, bytes_eq, change_first, current_at, deleting, effect_at, effect_of, evaluated_at, first_so, has_physical, has_token, here, intending, is_current_at, is_made, is_on, is_opening, is_restore, is_right, is_updated, keeping, known_stack, left_in_doubt, list_any, marked, more as more_same, new_call, none as none_same, option_or, other as of_another, own as is_own, pending_of, plan_now, replied, replying, resources_of, right_at, second_so, seen_as_held, seen_now, settled_in, stack_for, stack_of_operation, stopping, turning, where_physical, whole_now, with_status, without, world_after}
+use Rattle.cf_core.proofs.Words.{AllDone, AreSameThings, AreSingle, BackIsRestored, BecomesBy, Cause, Clean, CleanupKeepsWhole, ClearedIsRestored, CourseKeepsPromise, CreationIsWhole, DeletesSuperseded, EndsAs, Entry, Export, ExportsSame, Fits, HasFailed, Held, HeldIsFound, HeldStatus, HoldsWhole, In, IsAdvancing, IsAsItWas, IsAsSaid, IsHeldAtRest, IsDone, IsNoBegin, IsOnCourse, Known, MayFollow, MayFollowIn, MayFollowOn, MayKeep, MayTurn, Pending, Phase, Promised, Reply, Request, RestKeepsWhole, Right, Schema, ShapeIsKept, Source, StackState, Status, StaysAtRest, UpdateEndsAtRest, UpdateIsWhole, WholeIsComplete, Why, World, all_differ, answered, at_opening, bytes_eq, change_first, current_at, deleting, effect_at, effect_of, evaluated_at, first_so, has_physical, has_token, here, is_current_at, is_made, is_on, is_opening, is_restore, is_right, is_updated, keeping, known_stack, left_in_doubt, marked, option_or, other as of_another, own as is_own, pending_of, plan_now, replied, replying, resources_of, right_at, second_so, seen_as_held, seen_now, settled_in, stack_for, stack_of_operation, stopping, turning, whole_now, with_status, without, world_after}
 use Rattle.cf_core.proofs.Lemmas.{bytes_same, either_way, find-append, found_one, in_changed, in_filter, in_front, in_kept, in_map, none_false, none_first, not_so, one_id, own_framed, same_bytes, some_is}
-use Rattle.cf_core.proofs.{BackLists.is_of, BackLists.own_front, BackLists.was_of, TidyLists.from_changed, TidyLists.to_changed}
+use Rattle.cf_core.proofs.{BackSteps.is_of, BackSteps.own_front, BackSteps.was_of, Cleanups.from_changed, Cleanups.to_changed}
 use Rattle.cf_core.proofs.{FitKept.after_exports, Moving.beginning_name, Moving.in_stage, Statuses.intended_way, Statuses.kept_way}
 use Rattle.cf_core.proofs.Stacks.{exports_by}
-use Rattle.cf_effect.specs.Listed.{export_by, reexported, exports_after}
+use Rattle.cf_effect.specs.Listed.{reexported, exports_after}
 use Rattle.cf_export.specs.declared.Output.{Output}
 use Rattle.cf_plan.proofs.WholeFound.{IsFinished, IsWholeIn, current_is, evaluated, found_only, none_marked, other_exports, own_exports, stays_current, whole_left}
 use Rattle.cf_plan.specs.Created.{IsHeldAs}
@@ -70,42 +70,28 @@ holds u source f name x y t of_source outputs made held exports =
       single = l.single;
       sure = l.sure;
       outputs = outputs;
-      exports = λ e. subst (λ es. In e (filter (λ (z : Export). bytes_eq name z.stack) es) ↔ In e (map (export_by name) (whole_now u).exports)) (sym exports)
-          (own_exports name (whole_now u).exports x.exports e);
+      exports = grind (arith, own_exports);
       none_made = made;
     }
 
+cleans_done : (schemas : List Schema) (name : List ℕ) (x : World) (s : StackState) (c : Option Cause) → MayTurn schemas name x s Phase.Clean c
+    → ¬ HasFailed schemas name x s × AllDone s
+cleans_done schemas name x s c may = grind arith
+
 pub update_is_whole : UpdateIsWhole
 update_is_whole schemas x out number why name s t source w differs a shape =
-    subst (λ (v : StackState). HoldsWhole name y v × (s.tokens ≡ []) × (v.tokens ≡ [])) to_it.1
-    (by why (in_stage schemas x out name s e number to_it.0 w.may).2.1) where
-      e : Entry
-      e = Entry.Phase number Phase.Clean why
+    let e : Entry = Entry.Phase number Phase.Clean why in
+    let u : StackState = turning Phase.Clean s in
+    let to_it = becomes_own x e name s t differs refl w.becomes in
+    let (well, done) = cleans_done schemas name x s why (in_stage schemas x out name s e number to_it.0 w.may).2.1 in
+    let quiet = none_open schemas s source a done in
+    let f = finished schemas s source a name x shape w.fits well done in
+    let g : IsFinished u source = record { going = f.going; shape = f.shape; no_flaw = f.no_flaw; each = f.each; ids = f.ids } in
+    let whole = holds u source g name x (world_after x e) (effect_at (x.place + 1) e s).stack refl refl refl refl (own_framed number name x s to_it.0 e refl).exports in
+    subst (λ (v : StackState). HoldsWhole name (world_after x e) v × (s.tokens ≡ []) × (v.tokens ≡ [])) to_it.1 (whole, quiet, quiet)
 
-      y : World
-      y = world_after x e
-
-      to_it : (stack_for e x ≡ Some (name, s)) × ((effect_at (x.place + 1) e s).stack ≡ t)
-      to_it = becomes_own x e name s t differs refl w.becomes
-
-      turned : IsFinished s source → IsFinished (turning Phase.Clean s) source
-      turned f = record { going = f.going; shape = f.shape; no_flaw = f.no_flaw; each = f.each; ids = f.ids }
-
-      by :
-          (c : Option Cause) → MayTurn schemas name x s Phase.Clean c
-          → HoldsWhole name y (effect_at (x.place + 1) e s).stack × (s.tokens ≡ []) × ((effect_at (x.place + 1) e s).stack.tokens ≡ [])
-      by (Some c) may = absurd may
-      by None (now, well, done) =
-          let quiet = none_open schemas s source a done in (
-            holds (turning Phase.Clean s) source (turned (finished schemas s source a name x shape w.fits well done)) name x y (effect_at (x.place + 1) e s).stack
-                refl refl refl refl (own_framed number name x s to_it.0 e refl).exports,
-            quiet,
-            quiet,
-          )
-
-nothing_held : (bs hs : List Held) → AreSameThings bs hs → bs ≡ [] → hs ≡ []
-nothing_held bs hs none_same e = refl
-nothing_held bs hs (more_same one rest) e = let no : ⊥ = cc in absurd no
+pub nothing_held : (bs hs : List Held) → AreSameThings bs hs → bs ≡ [] → hs ≡ []
+nothing_held bs hs v2 e = grind arith
 
 completes :
     (schemas : List Schema) (name : List ℕ) (x : World) (s : StackState) (state : Status) → EndsAs schemas name x s state Status.CreateComplete
@@ -118,18 +104,15 @@ creation_is_whole schemas x out number failed name s t source w differs a shape 
     let y : World = world_after x e in
     let to_it : (stack_for e x ≡ Some (name, s)) × ((effect_at (x.place + 1) e s).stack ≡ t) = becomes_own x e name s t differs refl w.becomes in
     let u : StackState = stopping Status.CreateComplete s in
-    let ends : ¬ HasFailed schemas name x s × AllDone s =
-    completes schemas name x s s.status (in_stage schemas x out name s e number to_it.0 w.may).2.2 in
+    let ends = completes schemas name x s s.status (in_stage schemas x out name s e number to_it.0 w.may).2.2 in
     let quiet : s.tokens ≡ [] = none_open schemas s source a ends.1 in
     let made_same : s.made ≡ u.made = none_marked s.tokens s.made quiet in
-    let f : IsFinished u source =
-    let g = finished schemas s source a name x shape w.fits ends.0 ends.1 in
+    let f : IsFinished u source = let g = finished schemas s source a name x shape w.fits ends.0 ends.1 in
     subst (λ ms. IsFinished (record s { status = Status.CreateComplete; held = map (marked s.tokens) s.held; made = ms }) source) made_same
     (subst (λ hs. IsFinished (record s { status = Status.CreateComplete; held = hs }) source) (none_marked s.tokens s.held quiet)
     (record { going = g.going; shape = g.shape; no_flaw = g.no_flaw; each = g.each; ids = g.ids })) in
     let left : StackState = (effect_at (x.place + 1) e s).stack in
-    let whole_so : HoldsWhole name y left =
-    holds u source f name x y left refl refl refl refl (own_framed number name x s to_it.0 e refl).exports in
+    let whole_so = holds u source f name x y left refl refl refl refl (own_framed number name x s to_it.0 e refl).exports in
     -- all that it held was made
     let of_made : (h : Held) → In h (resources_of u) → In h s.made = λ h i.
     subst (In h) (ap (λ hs. hs ++ u.made) (sym (none_marked s.tokens s.held quiet) ∙ nothing_held s.before s.held a.held none_before) ∙ sym made_same) i in
@@ -171,8 +154,7 @@ marked_held ps hs = record {
   only = λ k i l. let m = in_changed (marked ps) hs k i in (m.one, m.of_list, subst (IsAlike m.one) m.same (alike m.one (find (is_on m.one.physical) ps)));
 } where
   alike : (h : Held) (o : Option Pending) → IsAlike h (left_in_doubt o h)
-  alike h None = refl
-  alike h (Some p) = refl
+  alike h v1 = grind arith
 
 -- the first that passes gets another status
 module _ (test : Held → Bool) (state : HeldStatus) where
@@ -181,8 +163,7 @@ module _ (test : Held → Bool) (state : HeldStatus) where
 
   -- whichever it is
   alike_changed : (h k : Held) → (k ≡ h) ⊎ (k ≡ stated h) → IsAlike h k
-  alike_changed h k e = let same : (g : Held) → k ≡ g → record h { status = k.status } ≡ record h { status = g.status } = λ g q. ap (λ (z : Held). record h { status = z.status }) q in
-      elim e [ inl q ↦ same h q ∙ sym q | inr q ↦ same (stated h) q ∙ sym q ]
+  alike_changed h k e = grind (arith, k.status)
 
   pub changed_held : (hs : List Held) → StayHeld hs (change_first test stated hs)
   changed_held hs = record {
@@ -213,26 +194,14 @@ module _ (x : World) (s : StackState) (fits : Fits x s) (none_made : s.made ≡ 
 
   -- a superseded resource is deleted
   deleted : (id : List ℕ) → IsGone id → StaysWhole s (deleting id s)
-  deleted id g = record {
-    held = without_held id s.held (own_front s.held s.made fits.ids) g.0 g.1 g.2 (sym g.3);
-    none_made = ap (without id) none_made;
-    source_same = refl;
-    outputs_same = refl;
-  }
+  deleted id g = grind (arith, without_held, own_front, fits.ids)
 
   restated : (id : List ℕ) (state : HeldStatus) → StaysWhole s (with_status id state s)
-  restated id state =
-      let change : Held → Held = λ h. record h { status = state } in
-      either_way (StaysWhole s) (list_any (has_physical id) s.held) (record s { held = where_physical id change s.held }) (record s { made = where_physical id change s.made })
-      (record { held = changed_held (has_physical id) state s.held; none_made = none_made; source_same = refl; outputs_same = refl })
-      (record { held = same_held s.held s.held refl; none_made = ap (where_physical id change) none_made; source_same = refl; outputs_same = refl })
+  restated id state = grind (arith, either_way, changed_held, same_held)
 
   -- its deletion is answered
   answered_so : (restores : Bool) (path id : List ℕ) → IsGone id → (answer : Reply) → StaysWhole s (answered restores path (Request.Delete id) answer s)
-  answered_so restores path id g (Reply.Success physical attrs) = deleted id g
-  answered_so restores path id g (Reply.Failed Code.NotFound) = deleted id g
-  answered_so restores path id g (Reply.Failed c) = restated id HeldStatus.DeleteFailed
-  answered_so restores path id g Reply.Doubt = unchanged
+  answered_so restores path id g v4 = grind (arith, deleted, restated, unchanged)
 
   replied_so : ((p : Pending) → In p s.tokens → DeletesSuperseded s p) → (token : ℕ) (answer : Reply) → StaysWhole s (replying token answer s)
   replied_so deletes token answer = by (pending_of token s) refl
@@ -246,10 +215,7 @@ module _ (x : World) (s : StackState) (fits : Fits x s) (none_made : s.made ≡ 
 
   -- a superseded resource is kept
   kept_so : (path id : List ℕ) (w : Why) → IsGone id → StaysWhole s (keeping path id w s)
-  kept_so path id w g =
-      let h = deleted id g in
-      kept_way (StaysWhole s) s unchanged path id w (record { held = same_held s.held s.held refl; none_made = none_made; source_same = refl; outputs_same = refl })
-      h
+  kept_so path id w g = grind (arith, deleted, kept_way, unchanged, same_held)
 
 -- what is whole stays so, as it was
 module _ (name : List ℕ) (x y : World) (s t : StackState) (fits : Fits y t) (h : HoldsWhole name x s) (k : StaysWhole s t) (exports : ExportsSame name x y) where
@@ -292,10 +258,7 @@ module _ (name : List ℕ) (x y : World) (s t : StackState) (fits : Fits y t) (h
           let b = k.held.kept g.0 c.0 c.2 in
           let stands : b.0.superseded ≡ false = sym (ap (λ (z : Held). z.superseded) b.2) ∙ c.2 in
           (b.0, ap (λ p. current_at p t.held) (c.1 ∙ ap (λ (z : Held). z.path) b.2) ∙ single_still b.0 b.1 stands, as_held w g.0 b.0 b.2 g.2);
-      held = λ r i l.
-          let a = k.held.only r i l in
-          let g = h.held a.0 a.1 (live a.0 r a.2 l) in
-          (g.0, ap (λ p. right_at p h.whole) (sym (ap (λ (z : Held). z.path) a.2)) ∙ g.1, as_held g.0 a.0 r a.2 g.2);
+      held = grind (arith, live, as_held, k.held.only, h.held, h.whole);
       single = single_still;
       sure = λ r i l. let a = k.held.only r i l in sym (ap (λ (z : Held). z.unsure) a.2) ∙ h.sure a.0 a.1 (live a.0 r a.2 l);
       outputs = k.outputs_same ∙ h.outputs;
@@ -315,27 +278,19 @@ module _ (x : World) (e : Entry) (name : List ℕ) (n : is_opening e ≡ false) 
   same_from es q h f = subst (λ gs. ofs gs f ↔ ofs x.exports f) (sym q) (h f)
 
   pub exports_other : ((t : StackState) → stack_for e x ≡ Some (name, t) → ⊥) → ExportsSame name x (world_after x e)
-  exports_other never = by (stack_for e x) refl
-    where
-      changed : (other : List ℕ) → (other ≡ name → ⊥) → (o : Option (List (List ℕ × List ℕ))) (f : Export) → ofs (exports_after other o x.exports) f ↔ ofs x.exports f
-      changed other differs None f = (λ i. i, λ i. i)
-      changed other differs (Some es) f = other_exports other es x.exports f name differs
+  exports_other never = by (stack_for e x) refl (after_exports x e n) where
+    changed : (other : List ℕ) → (other ≡ name → ⊥) → (o : Option (List (List ℕ × List ℕ))) (f : Export) → ofs (exports_after other o x.exports) f ↔ ofs x.exports f
+    changed other differs None f = (λ i. i, λ i. i)
+    changed other differs (Some es) f = other_exports other es x.exports f name differs
 
-      by : (o : Option (List ℕ × StackState)) → stack_for e x ≡ o → ExportsSame name x (world_after x e)
-      by None q = same_from x.exports (after_exports x e n ∙ ap (exports_by x e) q) (λ f. (λ i. i, λ i. i))
-      by (Some (other, u)) q =
-          same_from (exports_after other (effect_of e u).exports x.exports) (after_exports x e n ∙ ap (exports_by x e) q)
-          (changed other (λ same. never u (q ∙ ap (λ (k : List ℕ). Some (k, u)) same)) (effect_of e u).exports)
+    by : (o : Option (List ℕ × StackState)) → stack_for e x ≡ o → (world_after x e).exports ≡ exports_by x e (stack_for e x) → ExportsSame name x (world_after x e)
+    by None q k = same_from x.exports (k ∙ ap (exports_by x e) q) (λ f. (λ i. i, λ i. i))
+    by (Some (other, u)) q k = grind (arith, same_from, exports_by, changed)
 
   pub exports_own : (s : StackState) → stack_for e x ≡ Some (name, s) → (effect_of e s).exports ≡ None → ExportsSame name x (world_after x e)
-  exports_own s q none =
-      same_from x.exports (after_exports x e n ∙ ap (exports_by x e) q ∙ ap (λ o. exports_after name o x.exports) none) (λ f. (λ i. i, λ i. i))
+  exports_own s q v2 = grind (arith, same_from, after_exports, exports_by)
 
 -- What is whole stays so while its stack cleans up, as that ends, and at rest.
-
--- no operation begins while one is in progress
-none_begins : (k : Begun) → begins_from k Status.UpdateCompleteCleanupInProgress ≡ true → ⊥
-none_begins k e = grind (arith, true≢false)
 
 module _ (schemas : List Schema) (x : World) (out : List ℕ) (name : List ℕ) (s : StackState) (was : known_stack name x ≡ s) where
   abbrev after : Entry → StackState
@@ -357,35 +312,20 @@ module _ (schemas : List Schema) (x : World) (out : List ℕ) (name : List ℕ) 
     kept : (path physical : List ℕ) (w : Why) → MayKeep Clean out s path physical w → (r : Held) × In r s.held × (r.superseded ≡ true) × (physical ≡ r.physical)
     kept path physical w may = grind (arith, in_filter)
 
-    never_turns : (p : Phase) (c : Option Cause) → MayTurn schemas name x s p c → ⊥
-    never_turns p c may = grind arith
-
-    ended : (number : ℕ) (failed : List (List ℕ)) (state : Status) → EndsAs schemas name x s Status.UpdateCompleteCleanupInProgress state → Goes (Entry.Done number state failed)
-    ended number failed state ends = grind (arith, marked_held)
-
-    intended : (p : Pending) (number : ℕ) → StaysWhole s (intending number p s)
-    intended p number =
-        intended_way (StaysWhole s) s (stays s refl refl refl refl) number p
-        (stays (record s { tokens = s.tokens ++ p ∷ []; ledger = s.ledger ++ new_call number s.status p ∷ [] }) refl refl refl refl)
-
     goes : (e : Entry) → stack_for e x ≡ Some (name, s) → MayFollow schemas x out e → Goes e
     goes (Entry.Opened epoch lanes) q may = let no : ⊥ = cc in absurd no
     goes (Entry.Begin number n k) q may =
-        absurd (none_begins k (ap (begins_from k) (sym (ap (λ m. (known_stack m x).status) (beginning_name schemas x out name s number n k q) ∙ ap (λ (u : StackState). u.status) was ∙ cleans)) ∙ may.1))
+        absurd (grind (arith, true≢false))
     goes (Entry.Kept number path physical w) q may =
         (kept_so x s fits none_made path physical w (kept path physical w (cleaning (Entry.Kept number path physical w) number q may)), refl)
     goes (Entry.Intent number token lane path r) q may =
-        (intended (record { token = token; path = path; lane = lane; request = r }) number, refl)
+        (grind (arith, intended_way, stays), refl)
     goes (Entry.Outcome number token answer low high) q may =
         (replied_so x s fits none_made deletes token answer, refl)
-    goes (Entry.Phase number p c) q may = absurd (never_turns p c (cleaning (Entry.Phase number p c) number q may).1)
+    goes (Entry.Phase number p c) q may = absurd (grind (arith, (cleaning (Entry.Phase number p c) number q may).1))
     goes (Entry.Done number state failed) q may =
-        ended number failed state (subst (λ a. EndsAs schemas name x s a state) cleans (cleaning (Entry.Done number state failed) number q may).2)
+        (grind (arith, marked_held))
     goes (Entry.ChangeSet number n source rows outputs) q may = (stays (after (Entry.ChangeSet number n source rows outputs)) refl refl refl refl, refl)
-
--- an entry of one stack is no opening
-no_opening : (x : World) (e : Entry) (p : List ℕ × StackState) → stack_for e x ≡ Some p → is_opening e ≡ false
-no_opening x e p q = grind arith
 
 -- an opening leaves what a stack holds
 at_all : (x : World) (e : Entry) (name : List ℕ) (s : StackState) → is_opening e ≡ true → IsAsItWas s (effect_at (x.place + 1) e s).stack × ExportsSame name x (world_after x e)
@@ -398,68 +338,44 @@ was_whole : (s t : StackState) → s.made ≡ [] → IsAsItWas s t → StaysWhol
 was_whole s t none a = record { held = same_held s.held t.held a.held; none_made = a.made ∙ none; source_same = a.source; outputs_same = a.outputs }
 
 pub cleanup_keeps_whole : CleanupKeepsWhole
-cleanup_keeps_whole schemas x out e name s t w cleans deletes h = by t w.becomes w.fits_after
-  where
-    y : World
-    y = world_after x e
-
-    by : (u : StackState) → BecomesBy x e name s u → Fits y u → (k : HoldsWhole name y u) × (k.source ≡ h.source) × (k.whole ≡ h.whole)
-    by u (is_own q) f =
-        let g = goes schemas x out name s w.was w.fits h.none_made cleans deletes e q w.may in
-        whole_still name x y s (effect_at (x.place + 1) e s).stack f h g.0 (exports_own x e name (no_opening x e (name, s) q) s q g.1)
-    by u (at_opening o) f =
-        let a = at_all x e name s o in whole_still name x y s (effect_at (x.place + 1) e s).stack f h (was_whole s (effect_at (x.place + 1) e s).stack h.none_made a.0) a.1
-    by u (of_another n never) f = whole_still name x y s s f h (was_whole s s h.none_made (as_was s)) (exports_other x e name n never)
+cleanup_keeps_whole schemas x out e name s t w cleans deletes h = by t w.becomes w.fits_after where
+  by : (u : StackState) → BecomesBy x e name s u → Fits (world_after x e) u → (k : HoldsWhole name (world_after x e) u) × (k.source ≡ h.source) × (k.whole ≡ h.whole)
+  by u (is_own q) f =
+      let g = goes schemas x out name s w.was w.fits h.none_made cleans deletes e q w.may in
+      whole_still name x (world_after x e) s u f h g.0 (exports_own x e name (grind arith) s q g.1)
+  by u (at_opening o) f = let a = at_all x e name s o in whole_still name x (world_after x e) s u f h (was_whole s u h.none_made a.0) a.1
+  by u (of_another n never) f = whole_still name x (world_after x e) s s f h (was_whole s s h.none_made (as_was s)) (exports_other x e name n never)
 
 ends_from : (schemas : List Schema) (name : List ℕ) (x : World) (s : StackState) (state : Status) → EndsAs schemas name x s state Status.UpdateComplete
     → state ≡ Status.UpdateCompleteCleanupInProgress
 ends_from schemas name x s state e = grind arith
 
 pub update_ends_at_rest : UpdateEndsAtRest
-update_ends_at_rest schemas x out number failed name s t w differs h none quiet = (
-  whole,
-  record {
-    none_open = tokens ∙ quiet;
-    none_made = whole.none_made;
-    single = λ r i. whole.single r i (none r (subst (In r) held i));
-  },
-) where
-  e : Entry
-  e = Entry.Done number Status.UpdateComplete failed
-
-  to_it : (stack_for e x ≡ Some (name, s)) × ((effect_at (x.place + 1) e s).stack ≡ t)
-  to_it = becomes_own x e name s t differs refl w.becomes
-
-  from : s.status ≡ Status.UpdateCompleteCleanupInProgress
-  from = ends_from schemas name x s s.status (in_stage schemas x out name s e number to_it.0 w.may).2.2
-
-  nothing : (ps : List Pending) → ps ≡ [] → (p : Pending) → In p ps → DeletesSuperseded s p
-  nothing ps none p i = elim (subst (In p) none i) [ ]
-
-  whole : HoldsWhole name (world_after x e) t
-  whole = (cleanup_keeps_whole schemas x out e name s t w from (nothing s.tokens quiet) h).0
-
-  tokens : t.tokens ≡ s.tokens
-  tokens = ap (λ (u : StackState). u.tokens) (sym to_it.1)
-
-  held : t.held ≡ s.held
-  held = ap (λ (u : StackState). u.held) (sym to_it.1) ∙ sym (none_marked s.tokens s.held quiet)
+update_ends_at_rest schemas x out number failed name s t w differs h none quiet =
+    let e : Entry = Entry.Done number Status.UpdateComplete failed in
+    let to_it = becomes_own x e name s t differs refl w.becomes in
+    let from = ends_from schemas name x s s.status (in_stage schemas x out name s e number to_it.0 w.may).2.2 in
+    let whole = (cleanup_keeps_whole schemas x out e name s t w from (λ p i. elim (subst (In p) quiet i) [ ]) h).0 in
+    let held : t.held ≡ s.held = ap (λ (u : StackState). u.held) (sym to_it.1) ∙ sym (none_marked s.tokens s.held quiet) in (
+      whole,
+      record {
+        none_open = ap (λ (u : StackState). u.tokens) (sym to_it.1) ∙ quiet;
+        none_made = whole.none_made;
+        single = λ r i. whole.single r i (none r (subst (In r) held i));
+      },
+    )
 
 pub stays_at_rest : StaysAtRest
 stays_at_rest schemas x out e name s t w rests begins = by t w.becomes
   where
-    never_steps : (d : Entry) (number : ℕ) → stack_of_operation number x ≡ Some (name, s) → MayFollowOn schemas number x out d → ⊥
-    never_steps d number going may = let o = in_stage schemas x out name s d number going may in let never : None ≡ Some o.0 = sym rests ∙ o.1 in cc
-
     rest : (d : Entry) → stack_for d x ≡ Some (name, s) → MayFollow schemas x out d → IsNoBegin name d → IsAsItWas s (effect_at (x.place + 1) d s).stack × ((effect_of d s).exports ≡ None)
     rest (Entry.Opened epoch lanes) q may n = let never : ⊥ = cc in absurd never
     rest (Entry.Begin number m k) q may n = absurd (n (beginning_name schemas x out name s number m k q))
-    rest (Entry.ChangeSet number m source rows outputs) q may n =
-        (record { status = inr refl; held = refl; before = refl; made = refl; tokens = refl; source = refl; outputs = refl }, refl)
-    rest d q may n = absurd (never_steps d _ q may)
+    rest (Entry.ChangeSet number m source rows outputs) q may n = grind arith
+    rest d q may n = absurd (let o = in_stage schemas x out name s d _ q may in let never : None ≡ Some o.0 = sym rests ∙ o.1 in cc)
 
     by : (u : StackState) → BecomesBy x e name s u → IsAsItWas s u × ExportsSame name x (world_after x e)
-    by u (is_own q) = let r = rest e q w.may begins in (r.0, exports_own x e name (no_opening x e (name, s) q) s q r.1)
+    by u (is_own q) = let r = rest e q w.may begins in (r.0, exports_own x e name (grind arith) s q r.1)
     by u (at_opening o) = at_all x e name s o
     by u (of_another n never) = (as_was s, exports_other x e name n never)
 

@@ -3,12 +3,13 @@ use Rattle.std.proofs.Common.{◌≡◌, ℕ, zero, suc, List, [], ◌∷◌, �
 use Rattle.std.specs.Prelude.{cond, length}
 use Rattle.cf_tree.specs.Datum.{Data}
 use Rattle.cf_tree.specs.Keys.{value_at}
+use Rattle.cf_tree.specs.Lists.{is_among}
 use Rattle.cf_tree.specs.Tests as tests
 use Rattle.cf_tree.specs.Tests.{Test, TestNode, Tests, equals, negation, all_of, any_of, named, no_tests, test, place_of_test}
 use Rattle.cf_tree.specs.declared.template.Template.{Template}
 use Rattle.cf_eval.specs.declared.fault.EvalWhy.TheVariants.{UnknownName, CircularCondition}
 use Rattle.cf_desired.specs.Shape.{first_later}
-use Rattle.cf_eval.specs.Conditions.{equal_values, test_found, test_node_found, tests_found, is_one_of, decided_by, condition_found, noted_verdict, verdict_found, conditions_found}
+use Rattle.cf_eval.specs.Conditions.{equal_values, test_found, test_node_found, tests_found, decided_by, condition_found, noted_verdict, verdict_found, conditions_found}
 use Rattle.cf_eval.specs.Env.{scope_within, conditions_of, plain}
 use Rattle.cf_eval.specs.Functions.{or_fault}
 use Rattle.cf_desired.specs.Given.{Given, settings_for}
@@ -43,7 +44,7 @@ condition_stands : (left : ℕ) (s t : Scope) → KnowsMore s t → (conds : Lis
     → Stands false (condition_found left s conds under at name) (condition_found left t conds under at name)
 condition_stands zero s t k conds under at name = tt
 condition_stands (suc left) s t k conds under at name =
-    either (is_one_of name under) (condition_stands left s t k conds (under ++ name ∷ [])) where
+    either (is_among name under) (condition_stands left s t k conds (under ++ name ∷ [])) where
       either : (c : Bool) → ((place n : List ℕ) → Stands false (condition_found left s conds (under ++ name ∷ []) place n) (condition_found left t conds (under ++ name ∷ []) place n))
           → Stands false (cond c (bad (fault CircularCondition at)) (on_got (or_fault UnknownName at (value_at name conds)) (test_found (decided_by (condition_found left s conds (under ++ name ∷ [])) s) None)))
           (cond c (bad (fault CircularCondition at)) (on_got (or_fault UnknownName at (value_at name conds)) (test_found (decided_by (condition_found left t conds (under ++ name ∷ [])) t) None)))

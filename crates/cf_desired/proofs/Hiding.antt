@@ -1,5 +1,5 @@
 -- What is hidden at the beginning of an update is less than what was seen before it and than what is seen in it.
-use Rattle.std.proofs.Common.{◌≡◌, ℕ, List, [], ◌∷◌, Bool, true, false, Option, Some, None, refl, ap, subst, ◌∙◌}
+use Rattle.std.proofs.Common.{◌≡◌, ℕ, List, [], ◌∷◌, Bool, true, false, Option, Some, None, refl, ap, ◌∙◌}
 use Rattle.std.specs.Prelude.{cond}
 use Rattle.std.specs.Option.{option_and_then}
 use Rattle.std.specs.Str.{bytes_eq}
@@ -10,9 +10,7 @@ use Rattle.cf_eval.specs.Knows.{StaysKnown}
 use Rattle.cf_desired.specs.Seeing.{Seen}
 use Rattle.cf_desired.specs.Stays.{id_seen, attrs_seen}
 use Rattle.cf_desired.proofs.Puts.{kept_self}
-use Rattle.cf_desired.specs.ShapeStays.{AllStay, ForwardServes, GoesForward, HidingServes, IsClear, KeepsRest, hidden_of}
-use Rattle.cf_desired.specs.Shape.{shape_of}
-use Rattle.cf_tree.specs.declared.source.Source.{Source}
+use Rattle.cf_desired.specs.ShapeStays.{HidingServes, hidden_of}
 use Rattle.cf_desired.proofs.ShapeStays.{update_stays}
 
 module _ (ids attrs : List ℕ → Bool) where
@@ -43,25 +41,3 @@ hiding_serves source before now ids attrs clear same_ids same_attrs =
     update_stays source (hidden_of ids attrs before) before now clear
     (λ path. (id_kept ids attrs before path (id_seen path before) (λ n. kept_self (id_seen path before)), attrs_kept ids attrs before path (attrs_seen path before) (λ n. kept_self (attrs_seen path before))))
     (λ path. (id_kept ids attrs before path (id_seen path now) (same_ids path), attrs_kept ids attrs before path (attrs_seen path now) (same_attrs path)))
-
--- what is kept twice is kept
-kept_on : {A : Type 0} (x y z : Option A) → StaysKnown x y → StaysKnown y z → StaysKnown x z
-kept_on None y z g h = tt
-kept_on (Some a) y z g h = subst (λ o. StaysKnown o z) g h
-
-rest_on : (ids attrs : List ℕ → Bool) (a b c : Seen) → KeepsRest ids attrs a b → KeepsRest ids attrs b c → KeepsRest ids attrs a c
-rest_on ids attrs a b c g h path = (
-  λ e. kept_on (id_seen path a) (id_seen path b) (id_seen path c) ((g path).0 e) ((h path).0 e),
-  λ e. kept_on (attrs_seen path a) (attrs_seen path b) (attrs_seen path c) ((g path).1 e) ((h path).1 e),
-)
-
-all_stay : (source : Source) (before : Seen) (ids attrs : List ℕ → Bool) → IsClear (shape_of source (hidden_of ids attrs before)) → (a : Seen) (run : List Seen) → KeepsRest ids attrs before a
-    → GoesForward ids attrs a run → AllStay source ids attrs before run
-all_stay source before ids attrs clear a [] k g = tt
-all_stay source before ids attrs clear a (b ∷ run) k g =
-    let on = rest_on ids attrs before a b k g.0 in
-    ((on, hiding_serves source before b ids attrs clear (λ path e. (on path).0 e) (λ path e. (on path).1 e)), all_stay source before ids attrs clear b run on g.1)
-
-pub forward_serves : ForwardServes
-forward_serves source before ids attrs run clear g =
-    all_stay source before ids attrs clear before run (λ path. (λ e. kept_self (id_seen path before), λ e. kept_self (attrs_seen path before))) g

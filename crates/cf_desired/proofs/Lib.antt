@@ -36,8 +36,10 @@ pub mod OnTop
 pub mod Listed
 pub mod SameScopes
 pub mod Turning
+pub mod TurnPlaces
 pub mod LaidOut
 pub mod LaidBy
 pub mod Termed
 pub mod Planned
+pub mod FirstFlaw
 mod ResourceAt

@@ -1,31 +1,44 @@
--- The first resource of a name stands at its place.
-use Rattle.std.proofs.Common.{◌≡◌, ℕ, zero, suc, ◌+◌, ◌<◌, ◌≤◌, nat_lt, Bool, true, false, List, [], ◌∷◌, length, position, Option, Some, None, refl, ap, sym, ◌∙◌, arith, cond, find}
-use Rattle.std.specs.List.{position_or_len}
+-- The resource of a name stands at its place, where names ascend.
+use Rattle.std.proofs.Common.{◌≡◌, ℕ, ◌<◌, List, [], ◌∷◌, length, Some, None, Ok, Err, refl, ap, sym, ◌∙◌, map, get_or, cond}
 use Rattle.std.specs.Str.{bytes_eq}
-use Rattle.std.proofs.lemmas.List.Folds.{find_at}
-use Rattle.std.proofs.lemmas.List.Quantifiers.{position-Some}
-use Rattle.std.proofs.lemmas.Option.{slice_get_past}
+use Rattle.std.specs.Ordering.{nat_cmp, match_ordering}
+use Rattle.std.specs.Cmp.Lexicographic.{slice_cmp}
+use Rattle.cf_tree.specs.Keys.{ascends, ascends_from, bytes_lt, next, place, value_at}
 use Rattle.cf_tree.specs.Named.{found}
 use Rattle.cf_tree.specs.declared.template.Res.{Res}
+use Rattle.cf_tree.proofs.Lookups.{in_range, value_found, value_missed}
+use Rattle.cf_template.proofs.Ordered.{AreOrdered, under_names}
 use Rattle.cf_desired.specs.Shared.{no_resource, resource_placed}
 
-module _ (test : Res → Bool) where
-  found_from : (rs : List Res) (i : ℕ) → i < length rs → test (resource_placed i rs) ≡ true → ((k : ℕ) → k < i → test (resource_placed k rs) ≡ false) → find test rs ≡ Some (resource_placed i rs)
-  found_from [] i l e b = absurd (omega (arith, l))
-  found_from (r ∷ rs) zero l e b = ap (λ x. cond x (Some r) (find test rs)) e
-  found_from (r ∷ rs) (suc i) l e b =
-      ap (λ x. cond x (Some r) (find test rs)) (b 0 (omega arith)) ∙ found_from rs i (omega (arith, l)) e (λ k m. b (suc k) (omega (arith, m)))
+abbrev by_name : Res → List ℕ × Res
+by_name r = (r.name, r)
 
-  past_all : (rs : List Res) → position test rs ≡ None → length rs ≤ position_or_len test rs
-  past_all rs h = by (position_or_len test rs) (length rs) h where
-    by : (n m : ℕ) → cond (nat_lt n m) (Some n) None ≡ None → m ≤ n
-    by n m h = grind arith
+-- what stands under the names doesn't count for their order and their places
+ascends_from_named : (k : List ℕ) (rs : List Res) → ascends_from k (map by_name rs) ≡ ascends_from k (under_names rs)
+ascends_from_named k [] = refl
+ascends_from_named k (r ∷ rs) = rw (ascends_from_named r.name rs) refl
 
-pub named_at : (id : List ℕ) (rs : List Res) (at : ℕ) → position (λ (r : Res). bytes_eq id r.name) rs ≡ Some at → found (λ r. r.name) id rs ≡ Some (resource_placed at rs)
-named_at id rs at h =
-    let there = position-Some (λ (r : Res). bytes_eq id r.name) rs at no_resource h in
-    found_from (λ (r : Res). bytes_eq id r.name) rs at there.0 there.1 there.2
+ascends_named : (rs : List Res) → ascends (map by_name rs) ≡ ascends (under_names rs)
+ascends_named [] = refl
+ascends_named (r ∷ rs) = ascends_from_named r.name rs
 
-pub named_nowhere : (id : List ℕ) (rs : List Res) → position (λ (r : Res). bytes_eq id r.name) rs ≡ None → found (λ r. r.name) id rs ≡ None
-named_nowhere id rs h =
-    find_at (λ (r : Res). bytes_eq id r.name) rs ∙ slice_get_past rs (position_or_len (λ (r : Res). bytes_eq id r.name) rs) (past_all (λ (r : Res). bytes_eq id r.name) rs h)
+place_by_name : (k : List ℕ) (rs : List Res) → place k (map by_name rs) ≡ place k (under_names rs)
+place_by_name k [] = refl
+place_by_name k (r ∷ rs) = ap (λ p. match_ordering (slice_cmp nat_cmp k r.name) (Err 0) (Ok 0) (next p)) (place_by_name k rs)
+
+value_is_found : (k : List ℕ) (rs : List Res) → value_at k (map by_name rs) ≡ found (λ r. r.name) k rs
+value_is_found k [] = refl
+value_is_found k (r ∷ rs) = ap (λ v. cond (bytes_eq k r.name) (Some r) v) (value_is_found k rs)
+
+module _ (id : List ℕ) (rs : List Res) (at : ℕ) (o : AreOrdered rs) where
+  pub named_in : place id (under_names rs) ≡ Ok at → at < length rs
+  named_in h = in_range by_name id rs at (ascends_named rs ∙ o) (place_by_name id rs ∙ h)
+
+  pub named_at : place id (under_names rs) ≡ Ok at → found (λ r. r.name) id rs ≡ Some (resource_placed at rs)
+  named_at h = sym (value_is_found id rs) ∙ value_found by_name id rs at no_resource (ascends_named rs ∙ o) (place_by_name id rs ∙ h)
+
+  pub named_read : (r : Res) → r ≡ get_or rs at r → place id (under_names rs) ≡ Ok at → Some r ≡ found (λ x. x.name) id rs
+  named_read r e h = ap (λ x. Some x) e ∙ sym (value_found by_name id rs at r (ascends_named rs ∙ o) (place_by_name id rs ∙ h)) ∙ value_is_found id rs
+
+  pub named_nowhere : place id (under_names rs) ≡ Err at → found (λ r. r.name) id rs ≡ None
+  named_nowhere h = sym (value_is_found id rs) ∙ value_missed by_name id rs at (ascends_named rs ∙ o) (place_by_name id rs ∙ h)

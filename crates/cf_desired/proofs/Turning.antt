@@ -340,7 +340,7 @@ module _ (source : Source) (seen : Seen) where
           three : {B : Type 0} (h : Met → List B) (bs ms : List Met) (os : List WantedOutput) → flat_map h (bs ++ ms) ++ flat_map h (map (λ o. an_output o) os) ≡ flat_map h (bs ++ (ms ++ map (λ o. an_output o) os))
           three h bs ms os = sym (flat_map-append h (bs ++ ms) (map (λ o. an_output o) os)) ∙ ap (flat_map h) (append_assoc bs ms (map (λ o. an_output o) os))
 
-  valued_root : (b : Body) → valued_run source seen [] (turns_in the_root b) ≡ valued_in source seen (given_root source) b
+  pub valued_root : (b : Body) → valued_run source seen [] (turns_in the_root b) ≡ valued_in source seen (given_root source) b
   valued_root (barred f) = refl
   valued_root (halted t f) = refl
   valued_root (opened t conds w) =
@@ -371,7 +371,7 @@ mutual
   members_within n (shut f) = refl
   members_within n (inside.given_by form b) = members_of (through n form) b
 
-  members_of : (e : Entry) (b : Body) → flat_map member_on (turns_in e b) ≡ resources_in b
+  pub members_of : (e : Entry) (b : Body) → flat_map member_on (turns_in e b) ≡ resources_in b
   members_of e (barred f) = refl
   members_of e (halted t f) = refl
   members_of e (opened t conds w) = flat_map-append member_on (turns_along w) (a_closed ∷ []) ∙ append-nil (flat_map member_on (turns_along w)) ∙ members_along w

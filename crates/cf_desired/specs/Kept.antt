@@ -45,6 +45,7 @@ use Rattle.cf_desired.specs.declared.told.Blame.{Blame}
 use Rattle.cf_desired.specs.declared.told.Told.{Told}
 use Rattle.cf_desired.specs.declared.told.Told.TheVariants as told
 use Rattle.cf_desired.specs.declared.urls.Url as kept_url
+use Rattle.cf_desired.specs.declared.wanted.Evaluated.{Evaluated}
 use Rattle.cf_desired.specs.declared.urls.Url.TheVariants as named
 use Rattle.cf_desired.specs.Names.{path_in}
 use Rattle.cf_desired.specs.Given.{Given, Offers, given_by, kind_stop, offers_stop, pieces, unknown, with_piece}
@@ -57,7 +58,7 @@ use Rattle.cf_tree.specs.declared.template.Res.{Res}
 use Rattle.cf_desired.specs.Seeing.{Seen, by_names, output_sights, outputs_inside, outputs_of, seen_nested}
 use Rattle.cf_desired.specs.Shape.{Entering, entering_below, laid, Url, url, no_url, members_in, members_inside, paths_in, paths_inside, templates_in, templates_inside}
 use Rattle.cf_desired.specs.Stack.{Scoping, Stack, Verdicts, Sights, flaw_at, resource_scope, stop_in}
-use Rattle.cf_desired.specs.Turns.{Entry, Frame, Turn, the_root, through, a_resource, a_shut, a_barred, a_halted, an_opened, a_closed, turns_in, turns_inside}
+use Rattle.cf_desired.specs.Turns.{Entry, Frame, Turn, the_root, through, a_resource, a_shut, a_barred, a_halted, an_opened, a_closed, frames_behind, turns_in, turns_inside, valued_at}
 use Rattle.cf_desired.specs.Work.{Member, Nesting, Inside, Body, barred, shut}
 
 -- the given texts, as binding takes them
@@ -152,6 +153,12 @@ pub record IsShape (s : kept_shape.Shape) (b : Body) : Type 0 where
   pub templates : s.templates ≡ templates_in b
   pub members : s.members ≡ members_in b
 
+-- the shape of what was laid out
+pub record IsShapeFrom (l : Laid) (s : kept_shape.Shape) : Type 0 where
+  pub turns : s.turns ≡ l.turns
+  pub templates : s.templates ≡ l.count.templates
+  pub members : s.members ≡ l.count.members
+
 -- the templates that are open, the last one first
 abbrev pub frame_in : kept_frame.Frame → Frame
 frame_in f = record {
@@ -166,6 +173,15 @@ frame_in f = record {
 abbrev pub frames_in : List kept_frame.Frame → List Frame
 frames_in [] = []
 frames_in (f ∷ fs) = frames_in fs ++ frame_in f ∷ []
+
+-- the open templates after a turn, and a resource with its properties, where there is a turn
+abbrev pub frames_past : Source → Seen → List Frame → Option kept_turn.Turn → List Frame
+frames_past source seen fs None = fs
+frames_past source seen fs (Some turn) = frames_behind source seen fs (turn_in turn)
+
+abbrev pub valued_there : Source → List Frame → Option kept_turn.Turn → List (Member × Evaluated)
+valued_there source fs None = []
+valued_there source fs (Some turn) = valued_at source fs (turn_in turn)
 
 -- what resources and outputs are evaluated over
 abbrev pub scope_by : Ground → Sights → Scope

@@ -23,6 +23,7 @@ pub mod PathsDiffer
 pub mod NeededIsKnown
 pub mod Listed
 pub mod Turns
+pub mod TurnPlaces
 pub mod Laying
 pub mod Shared
 pub mod Kept

@@ -1,12 +1,12 @@
 -- What of a shape rests on what is seen: where nothing hinders it, nothing that more knowledge changes (this project's own laws).
-use Rattle.std.specs.Prelude.{◌≡◌, ℕ, List, Bool, false, None, map, if◌then◌else◌, [], ◌∷◌, ⊤}
+use Rattle.std.specs.Prelude.{◌≡◌, ℕ, List, Bool, false, None, map, if◌then◌else◌, [], ⊤}
 use Rattle.cf_tree.specs.declared.source.Source.{Source}
 use Rattle.cf_eval.specs.Knows.{StaysKnown}
 use Rattle.cf_desired.specs.Seeing.{SeenAt, Seen}
 use Rattle.cf_desired.specs.Stays.{SeesMore, id_seen, attrs_seen}
 use Rattle.cf_desired.specs.Plan.{plan_by}
 use Rattle.cf_desired.specs.Shape.{shape_of}
-use Rattle.cf_desired.specs.Work.{Member, Nesting, Work, Inside, Body, Shape, no_work, resource, nested, shut, barred, halted, opened}
+use Rattle.cf_desired.specs.Work.{Work, Inside, Body, Shape, no_work, resource, nested, shut, barred, halted, opened}
 use Rattle.cf_desired.specs.Work as inside
 
 -- all conditions are decided, all names of nested templates are known, and no template hinders the work
@@ -56,25 +56,9 @@ HidingServes =
     → ((path : List ℕ) → attrs path ≡ false → StaysKnown (attrs_seen path before) (attrs_seen path now))
     → shape_of source now ≡ shape_of source before
 
--- Each of these keeps what the one before it showed, but for what is hidden: so an operation goes forward, whose change set hid
--- what it may change.
+-- What the one shows the other shows as well, but for what is hidden: so an operation goes forward, whose change set hid what it
+-- may change.
 abbrev pub KeepsRest : (List ℕ → Bool) → (List ℕ → Bool) → Seen → Seen → Type 0
 KeepsRest ids attrs a b =
     (path : List ℕ) → (ids path ≡ false → StaysKnown (id_seen path a) (id_seen path b))
     × (attrs path ≡ false → StaysKnown (attrs_seen path a) (attrs_seen path b))
-
-abbrev pub GoesForward : (List ℕ → Bool) → (List ℕ → Bool) → Seen → List Seen → Type 0
-GoesForward ids attrs a [] = ⊤
-GoesForward ids attrs a (b ∷ run) = KeepsRest ids attrs a b × GoesForward ids attrs b run
-
--- each shows what was not hidden, and has the shape before
-abbrev pub AllStay : Source → (List ℕ → Bool) → (List ℕ → Bool) → Seen → List Seen → Type 0
-AllStay source ids attrs before [] = ⊤
-AllStay source ids attrs before (now ∷ run) =
-    (KeepsRest ids attrs before now × (shape_of source now ≡ shape_of source before)) × AllStay source ids attrs before run
-
--- in such a run what was not hidden stays seen, and with it the shape, where it suffices to make all clear
-abbrev pub ForwardServes : Type 0
-ForwardServes =
-    (source : Source) (before : Seen) (ids attrs : List ℕ → Bool) (run : List Seen) → IsClear (shape_of source (hidden_of ids attrs before))
-    → GoesForward ids attrs before run → AllStay source ids attrs before run

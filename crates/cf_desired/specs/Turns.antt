@@ -161,16 +161,16 @@ frames_after source seen g fs a_closed = close source fs
 abbrev pub frames_behind : Source → Seen → List Frame → Turn → List Frame
 frames_behind source seen fs turn = frames_after source seen (given_at source fs turn) fs turn
 
+-- the open templates after turns
+abbrev pub frames_run : Source → Seen → List Frame → List Turn → List Frame
+frames_run source seen fs [] = fs
+frames_run source seen fs (turn ∷ ts) = frames_run source seen (frames_behind source seen fs turn) ts
+
 -- a resource with its properties
 abbrev pub valued_at : Source → List Frame → Turn → List (Member × Evaluated)
 valued_at source [] turn = []
 valued_at source (f ∷ fs) (a_resource m) = (m, member_props f.stack.path (scope_on source f) m) ∷ []
 valued_at source (f ∷ fs) _ = []
-
--- a resource at another path
-abbrev pub is_beside : List ℕ → Turn → Bool
-is_beside path (a_resource m) = not (bytes_eq path m.path)
-is_beside path _ = false
 
 -- the plan with a flaw, a nested stack, a template that was entered, a resource, and outputs
 abbrev pub with_flaw : Plan → Flaw → Plan

@@ -6,7 +6,7 @@ ghost use Rattle.cf_desired.specs.NeededIsKnown.{NeededIsKnown};
 ghost use Rattle.cf_desired.specs.NeedsMatter.{NeedsMatter, StackNeedsMatter};
 ghost use Rattle.cf_desired.specs.PathsDiffer.{PathsDiffer};
 ghost use Rattle.cf_desired.specs.Rests.{OutputRests, ValueRests};
-ghost use Rattle.cf_desired.specs.ShapeStays.{FlawlessIsClear, ForwardServes, HidingServes, ShapeStays, UpdateStays};
+ghost use Rattle.cf_desired.specs.ShapeStays.{FlawlessIsClear, HidingServes, ShapeStays, UpdateStays};
 ghost use Rattle.cf_desired.specs.Stays.{AllKnownIsWhole, SeenIsKnown};
 
 /// What an expression comes to rests on what is seen of the names that it mentions alone.
@@ -47,12 +47,6 @@ pub fn update_stays()
 /// needed to open every template.
 pub fn hiding_serves()
     ensures { HidingServes }
-{}
-
-/// Where each moment of a run keeps what was not hidden at its beginning, and that suffices to open
-/// every template, all of it stays seen, and the shape is that before.
-pub fn forward_serves()
-    ensures { ForwardServes }
 {}
 
 /// A plan without a flaw is one of a shape in which every template could be opened.

@@ -2,7 +2,7 @@
 ghost use Rattle.std.specs.Prelude.{◌≡◌, ◌+◌, [], ◌∷◌, ◌++◌, IfOk, codes, fold, length, map};
 ghost use Rattle.cf_eval.specs.Env.{scope_in};
 ghost use Rattle.cf_template.proofs.Ordered.{AreOrdered};
-ghost use Rattle.cf_desired.specs.Kept.{IsContents, IsJoined, IsLaid, IsLaidAlong, IsShape, IsWithin, WayLaid, course_in, entering_in, kept_entry_in, nesting_in, offer_in, scope_by, kept_stack_in, way_in};
+ghost use Rattle.cf_desired.specs.Kept.{IsContents, IsJoined, IsLaid, IsLaidAlong, IsShape, IsShapeFrom, IsWithin, WayLaid, course_in, entering_in, kept_entry_in, nesting_in, offer_in, scope_by, kept_stack_in, way_in};
 ghost use Rattle.cf_desired.specs.Laying.{IsWay, path_begun, enterable_below, entered_by, entered_way, few, step_by, way_by, with_member, with_nested};
 ghost use Rattle.cf_desired.specs.Listed.{made_by, settings_by, stands_by};
 ghost use Rattle.cf_desired.specs.Given.{Given, given_in};
@@ -29,9 +29,10 @@ use crate::outputs::output_sights;
 use crate::pseudo::pseudo_of;
 use crate::seen::Seen;
 use crate::shape::{Entry, Nesting, Shape, Stack, Turn};
-use crate::shared::{Shared, SharedRes, shared_res};
+use crate::shared::{Shared, SharedRes, resource_named, shared_res};
 use crate::sights::{add_nested, made_by};
 use crate::templates::{Templates, is_stack, template_named};
+use crate::turns::Turns;
 use crate::urls::{Url, has_shape, offered_to, url_wanted};
 use cf_eval::{Env, OutputSight, Sights, path_in};
 use cf_graph::Needs;
@@ -147,7 +148,7 @@ pub fn shape_of(
     let Some(template) = template_named(source, templates, &source.root) else {
         let name = source.root.try_clone(alloc)?;
         let laid = barred(alloc, entry, Flaw::TemplateMissing { name }, count)?;
-        return Ok(shape_from(laid));
+        return shape_from(alloc, laid);
     };
     let laying = Laying {
         source,
@@ -159,19 +160,23 @@ pub fn shape_of(
         pieces: pieces_of(alloc, &source.given)?,
     };
     let laid = lay(alloc, &laying, entering, entry, &given, DEPTH, count)?;
-    Ok(shape_from(laid))
+    shape_from(alloc, laid)
 }
 
-fn shape_from(laid: Laid) -> Shape
-    ensures turns { result.turns ≡ laid.turns }
-    ensures templates { result.templates ≡ laid.count.templates }
-    ensures members { result.members ≡ laid.count.members }
+fn shape_from(alloc: Global, laid: Laid) -> Result<Shape, AllocError>
+    ensures { IfOk result (IsShapeFrom laid) }
 {
-    Shape {
-        turns: laid.turns,
-        templates: laid.count.templates,
-        members: laid.count.members,
-    }
+    let Laid {
+        turns,
+        outputs: _,
+        paths: _,
+        count,
+    } = laid;
+    Ok(Shape {
+        turns: Turns::new(alloc, turns)?,
+        templates: count.templates,
+        members: count.members,
+    })
 }
 
 /// The root template, as it is entered.
@@ -251,6 +256,7 @@ fn contents_of(
     count: Count,
 ) -> Result<Contents, AllocError>
     requires templates { laying.now.templates.now ≡ templates_of laying.now.source.now }
+    requires ordered { AreOrdered ground.now.stack.now.template.resources }
     requires stack { kept_stack_in ground.now.stack.now ≡ kept_stack_in entering.now.stack }
     requires source { ground.now.source.now ≡ laying.now.source.now }
     requires few { few (count.templates + 1) (count.members + length ground.now.stack.now.template.resources) }
@@ -347,11 +353,12 @@ fn between(alloc: Global, turn: Turn, inner: Listing<Turn>) -> Result<Listing<Tu
 
 /// The logical ids of a template's own resources in the order of work.
 fn own_ids(alloc: Global, template: &Template, order: &Needs) -> Result<Names, AllocError>
+    requires ordered { AreOrdered template.now.resources }
     ensures { IfOk result (λ ids. ids ≡ own_in template.now order.now.entries) }
 {
     let mut own = Names::new(alloc);
     for (id, _) in order.iter() {
-        if let Some(resource) = template.resources.find(id.as_str()) {
+        if let Some(resource) = resource_named(template, id.as_str()) {
             if !is_stack(resource) {
                 own.push(resource.name.try_clone(alloc)?)?;
             }
@@ -362,6 +369,7 @@ fn own_ids(alloc: Global, template: &Template, order: &Needs) -> Result<Names, A
 
 /// The logical ids of the own resources of a stack's template in the order of work.
 fn own_on(alloc: Global, stack: &Stack, order: &Needs) -> Result<Names, AllocError>
+    requires ordered { AreOrdered stack.now.template.resources }
     ensures { IfOk result (λ ids. ids ≡ own_in stack.now.template order.now.entries) }
 {
     own_ids(alloc, &stack.template, order)
@@ -452,6 +460,7 @@ fn work(
     course: &mut Course,
 ) -> Result<(), AllocError>
     requires templates { laying.now.templates.now ≡ templates_of laying.now.source.now }
+    requires ordered { AreOrdered entering.now.stack.template.resources }
     requires stack { kept_stack_in ground.now.stack.now ≡ kept_stack_in entering.now.stack }
     requires source { ground.now.source.now ≡ laying.now.source.now }
     requires few { few course.old.count.templates course.old.count.members }
@@ -476,6 +485,7 @@ fn step(
     course: &mut Course,
 ) -> Result<(), AllocError>
     requires templates { laying.now.templates.now ≡ templates_of laying.now.source.now }
+    requires ordered { AreOrdered entering.now.stack.template.resources }
     requires stack { kept_stack_in ground.now.stack.now ≡ kept_stack_in entering.now.stack }
     requires source { ground.now.source.now ≡ laying.now.source.now }
     requires few { few course.old.count.templates course.old.count.members }

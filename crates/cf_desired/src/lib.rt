@@ -24,6 +24,7 @@ mod sights;
 mod templates;
 mod text;
 mod told;
+mod turns;
 mod urls;
 mod values;
 mod wanted;
@@ -32,9 +33,9 @@ mod whole_plan;
 pub use exports::export_names;
 pub use flaw::{Flaw, Flaws};
 pub use laws::{
-    all_known_is_whole, flawless_is_clear, forward_serves, hiding_serves, known_stays,
-    needed_is_known, needs_come_first, needs_matter, order_tells_needs, output_rests, paths_differ,
-    seen_is_known, shape_stays, stack_needs_matter, update_stays, value_rests,
+    all_known_is_whole, flawless_is_clear, hiding_serves, known_stays, needed_is_known,
+    needs_come_first, needs_matter, order_tells_needs, output_rests, paths_differ, seen_is_known,
+    shape_stays, stack_needs_matter, update_stays, value_rests,
 };
 pub use laying::shape_of;
 pub use props::{Prop, Props};

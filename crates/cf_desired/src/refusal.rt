@@ -1,8 +1,7 @@
 //! What a source wants, as one answer.
 ghost use Rattle.std.specs.Prelude.{◌≡◌, IfOk, option_map};
 ghost use Rattle.cf_tree.specs.Lists.{first_in};
-ghost use Rattle.cf_desired.specs.Desired.{Desires, fault_of};
-ghost use Rattle.cf_desired.specs.Plan.{plan_of};
+ghost use Rattle.cf_desired.specs.Desired.{Desires, desired_of, fault_of};
 ghost use Rattle.cf_desired.specs.Templates.{templates_of};
 
 use crate::flaw::Flaw;
@@ -59,7 +58,7 @@ pub fn desired(
     seen: &Seen,
 ) -> Result<Desired, DesiredFault>
     requires templates { templates.now ≡ templates_of source.now }
-    ensures { Desires (plan_of source.now seen.now) result }
+    ensures { Desires (desired_of source.now seen.now) result }
 {
     let Ok(plan) = plan(alloc, source, templates, seen) else {
         return Err(DesiredFault::NoMemory);

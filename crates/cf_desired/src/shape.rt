@@ -10,6 +10,7 @@ ghost use Rattle.cf_desired.specs.Work.{Body};
 
 use crate::flaw::Flaw;
 use crate::shared::{Shared, SharedRes};
+use crate::turns::Turns;
 use cf_tree::{ByName, CondMap, Deletion, Listing, Names, Replace, Template, Txt};
 use std::alloc::{AllocError, Global};
 
@@ -111,7 +112,7 @@ pub(crate) enum Turn {
 /// What a source wants, but for values.
 #[derive(Drop)]
 pub struct Shape {
-    pub(crate) turns: Listing<Turn>,
+    pub(crate) turns: Turns,
     /// How many templates were entered.
     pub(crate) templates: u64,
     /// How many resources these have, each counted as often as it was entered.

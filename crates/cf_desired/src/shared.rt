@@ -1,12 +1,13 @@
 //! Values that several hold at once.
-ghost use Rattle.std.specs.Prelude.{◌≡◌, IfOk, option_map};
-ghost use Rattle.std.specs.List.{position};
-ghost use Rattle.std.specs.Str.{bytes_eq};
+ghost use Rattle.std.specs.Prelude.{◌≡◌, IfOk};
+ghost use Rattle.std.specs.Option.{option_copied};
 ghost use Rattle.cf_graph.specs.Needs.{resource_named};
-ghost use Rattle.cf_tree.specs.declared.template.Res as found;
+ghost use Rattle.cf_template.proofs.Ordered.{AreOrdered, under_names};
+ghost use Rattle.cf_tree.specs.Keys.{place};
 
 use cf_tree::{Res, Template, TryClone};
 use std::alloc::{AllocError, Global};
+use std::cmp::Ordering;
 use std::marker::Model;
 use std::ops::Deref;
 use std::sync::Arc;
@@ -96,26 +97,52 @@ impl Deref for SharedRes {
     }
 }
 
-/// The place of the first of these resources with a name.
-fn place_named(resources: &[Res], id: &str) -> Option<usize>
-    ensures { result ≡ position (λ (r : found.Res). bytes_eq id.now r.name) resources.now }
+/// Where the resource of a name is among resources whose names ascend, or else where it would go.
+fn place_named(resources: &[Res], id: &str) -> Result<usize, usize>
+    requires ordered { AreOrdered resources.now }
+    ensures { result ≡ place id.now (under_names resources.now) }
 {
-    resources.iter().position(|resource| resource.name.is(id))
+    let mut low = 0;
+    let mut high = resources.len();
+    while low < high {
+        let middle = low + (high - low) / 2;
+        match resources[middle].name.order_of(id) {
+            Ordering::Less => high = middle,
+            Ordering::Equal => return Ok(middle),
+            Ordering::Greater => low = middle + 1,
+        }
+    }
+    Err(low)
 }
 
 /// The resource of a logical id in a template.
+#[tactic(auto, using(crate::proofs::ResourceAt::named_in, crate::proofs::ResourceAt::named_nowhere))]
+pub(crate) fn resource_named<'a>(template: &'a Template, id: &str) -> Option<&'a Res>
+    requires ordered { AreOrdered template.now.resources }
+    ensures { option_copied result ≡ resource_named id.now template.now }
+{
+    let resources = template.resources.as_slice();
+    match place_named(resources, id) {
+        Ok(at) => Some(&resources[at]),
+        Err(_) => None,
+    }
+}
+
+/// The resource of a logical id in a template, to be held with others.
+#[tactic(auto, using(crate::proofs::ResourceAt::named_in, crate::proofs::ResourceAt::named_at, crate::proofs::ResourceAt::named_nowhere))]
 pub(crate) fn shared_res(
     alloc: Global,
     template: &Shared<Template>,
     id: &str,
 ) -> Result<Option<SharedRes>, AllocError>
+    requires ordered { AreOrdered template.now.resources }
     ensures { IfOk result (λ r. r ≡ resource_named id.now template.now) }
 {
     match place_named(template.resources.as_slice(), id) {
-        Some(at) => Ok(Some(SharedRes {
+        Ok(at) => Ok(Some(SharedRes {
             template: template.try_clone(alloc)?,
             at,
         })),
-        None => Ok(None),
+        Err(_) => Ok(None),
     }
 }

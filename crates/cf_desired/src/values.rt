@@ -1,13 +1,13 @@
 //! What a source wants over what is seen: the values of its shape.
-ghost use Rattle.std.specs.Prelude.{◌≡◌, [], ◌∷◌, ◌++◌, IfOk, option_map};
+ghost use Rattle.std.specs.Prelude.{◌≡◌, [], ◌∷◌, ◌++◌, IfOk, map, option_map, take};
 ghost use Rattle.std.specs.Option.{option_copied, option_or};
 ghost use Rattle.std.specs.List.{flat_map};
 ghost use Rattle.cf_eval.specs.Env.{scope_in};
-ghost use Rattle.cf_desired.specs.Kept.{IsShape, kept_entry_in, frame_in, frames_in, member_in, nesting_in, offer_in, kept_stack_in, turn_in};
+ghost use Rattle.cf_desired.specs.Kept.{IsShape, kept_entry_in, frame_in, frames_in, frames_past, member_in, nesting_in, offer_in, kept_stack_in, turn_in, valued_there};
 ghost use Rattle.cf_desired.specs.Met.{bind_flaw};
 ghost use Rattle.cf_desired.specs.Plan.{at_path, no_plan, output_flaws, plan_by, plan_of, props_at, wanted_of};
 ghost use Rattle.cf_desired.specs.Templates.{templates_of};
-ghost use Rattle.cf_desired.specs.Turns.{entered, frames_behind, is_beside, outputs_on, plan_after, plan_behind, valued_at, with_exports, with_flaw, with_flaw_of, with_resource, with_roots, with_some_flaw, with_stack, with_unmade};
+ghost use Rattle.cf_desired.specs.Turns.{entered, frames_behind, frames_run, outputs_on, plan_after, plan_behind, valued_at, with_exports, with_flaw, with_flaw_of, with_resource, with_roots, with_some_flaw, with_stack, with_unmade};
 ghost use Rattle.cf_desired.specs.Valued.{member_props};
 ghost use Rattle.cf_desired.specs.Work.{Body};
 
@@ -21,6 +21,7 @@ use crate::seen::Seen;
 use crate::shape::{Entry, Member, Nesting, Shape, Stack, Turn};
 use crate::templates::Templates;
 use crate::told::properties;
+use crate::turns::Turns;
 use crate::wanted::{Evaluated, Inner, Plan, Wanted, WantedOutput};
 use cf_eval::Env;
 use cf_tree::{CondMap, Listing, Names, Source, TryClone, Txt};
@@ -93,7 +94,7 @@ fn pass<'a>(
 /// # Errors
 ///
 /// Only for want of memory.
-#[tactic(auto, using(crate::proofs::Turning::props_so))]
+#[tactic(auto, using(crate::proofs::TurnPlaces::props_missing, crate::proofs::TurnPlaces::props_there))]
 pub fn props_at(
     alloc: Global,
     source: &Source,
@@ -103,27 +104,84 @@ pub fn props_at(
 ) -> Result<Option<Evaluated>, AllocError>
     ensures { IfOk result (λ v. (b : Body) → IsShape shape.now b → v ≡ props_at source.now b seen.now path.now) }
 {
+    let Some(place) = shape.turns.place_of(path) else {
+        return Ok(None);
+    };
     let mut frames = Vec::new(alloc);
-    for turn in shape.turns.as_slice() {
-        if is_beside(turn, path) {
-            continue;
-        }
-        if let Some(found) = value_at(alloc, source, frames.as_slice(), turn, path)? {
-            return Ok(Some(found));
-        }
-        let offered = offered_at(alloc, source, frames.as_slice(), turn)?;
-        take_turn(alloc, source, seen, &mut frames, &offered.given, turn)?;
-    }
-    Ok(None)
+    open_till(alloc, source, seen, &mut frames, &shape.turns, place)?;
+    value_there(
+        alloc,
+        source,
+        frames.as_slice(),
+        shape.turns.get(place),
+        path,
+    )
 }
 
-/// Whether a turn is a resource at another path.
-fn is_beside(turn: &Turn, path: &Txt) -> bool
-    ensures { result ≡ is_beside path.now (turn_in turn.now) }
+/// Takes the turns before a place: none but those that are no resource opens or closes a template.
+fn open_till<'a>(
+    alloc: Global,
+    source: &Source,
+    seen: &'a Seen,
+    frames: &mut Vec<Frame<'a>>,
+    turns: &'a Turns,
+    place: usize,
+) -> Result<(), AllocError>
+    ensures { IfOk result (λ _. frames_in frames.new.items ≡ frames_run source.now seen.now (frames_in frames.old.items) (map turn_in (take place turns.now))) }
+{
+    for other in turns.others() {
+        if *other >= place {
+            return Ok(());
+        }
+        open_past(alloc, source, seen, frames, turns.get(*other))?;
+    }
+    Ok(())
+}
+
+/// Takes a turn, where there is one.
+fn open_past<'a>(
+    alloc: Global,
+    source: &Source,
+    seen: &'a Seen,
+    frames: &mut Vec<Frame<'a>>,
+    turn: Option<&'a Turn>,
+) -> Result<(), AllocError>
+    ensures { IfOk result (λ _. frames_in frames.new.items ≡ frames_past source.now seen.now (frames_in frames.old.items) (option_copied turn.entry)) }
 {
     match turn {
-        Turn::Resource { member } => !member.path.is(path.as_str()),
-        _ => false,
+        Some(turn) => open_behind(alloc, source, seen, frames, turn),
+        None => Ok(()),
+    }
+}
+
+/// Takes a turn.
+fn open_behind<'a>(
+    alloc: Global,
+    source: &Source,
+    seen: &'a Seen,
+    frames: &mut Vec<Frame<'a>>,
+    turn: &'a Turn,
+) -> Result<(), AllocError>
+    ensures { IfOk result (λ _. frames_in frames.new.items ≡ frames_behind source.now seen.now (frames_in frames.old.items) (turn_in turn.now)) }
+{
+    let offered = offered_at(alloc, source, frames.as_slice(), turn)?;
+    take_turn(alloc, source, seen, frames, &offered.given, turn)?;
+    Ok(())
+}
+
+/// What the properties of a path come to, where there is a turn that is its resource.
+fn value_there(
+    alloc: Global,
+    source: &Source,
+    frames: &[Frame],
+    turn: Option<&Turn>,
+    path: &Txt,
+) -> Result<Option<Evaluated>, AllocError>
+    ensures { IfOk result (λ v. v ≡ option_map (λ r. r.1) (at_path path.now (valued_there source.now (frames_in frames.now) (option_copied turn.entry)))) }
+{
+    match turn {
+        Some(turn) => value_at(alloc, source, frames, turn, path),
+        None => Ok(None),
     }
 }
 

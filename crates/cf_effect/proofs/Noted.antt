@@ -1,12 +1,13 @@
 -- Findings follow what an outcome changes.
-use Rattle.std.proofs.Common.{◌≡◌, ℕ, zero, suc, ◌+◌, ◌<◌, ◌≤◌, ◌==◌, ◌||◌, ◌&&◌, not, Bool, true, false, List, [], ◌∷◌, ◌++◌, length, map, take, find, get_or, set, Option, Some, None, option_map, refl, ap, sym, ◌∙◌, subst, arith, cond, true≢false}
+use Rattle.std.proofs.Common.{replicate, ◌≡◌, ℕ, zero, suc, ◌+◌, ◌<◌, ◌≤◌, ◌==◌, ◌||◌, ◌&&◌, not, Bool, true, false, List, [], ◌∷◌, ◌++◌, length, map, take, find, get_or, set, Option, Some, None, Result, Ok, Err, IfOk, option_map, refl, ap, sym, ◌∙◌, subst, arith, cond, true≢false}
 use Rattle.std.specs.Prelude.{is_some}
 use Rattle.std.specs.List.{AllByRecursion, list_any, slice_get}
 use Rattle.std.specs.Option.{option_map_or, option_or}
 use Rattle.std.specs.Str.{bytes_eq}
+use Rattle.std.specs.Global.{Vec}
 use Rattle.std.proofs.lemmas.Bool.{and_parts, eq-eqb, ne_eqb, not-true}
 use Rattle.std.proofs.Math.Seq.{take-suc}
-use Rattle.std.proofs.lemmas.List.{length-set}
+use Rattle.std.proofs.lemmas.List.{length-set, length-take}
 use Rattle.std.proofs.lemmas.List.Folds.{find-append}
 use Rattle.std.proofs.lemmas.Option.{none-some, same_Some, slice_get-map, slice_get_within}
 use Rattle.std.proofs.lemmas.Slice.Eq.{bytes_eq-Decides}
@@ -26,8 +27,8 @@ use Rattle.cf_effect.specs.declared.layout.Layout.{Layout}
 use Rattle.cf_effect.specs.declared.layout.Placed.{Placed}
 use Rattle.cf_effect.specs.Begin.{seen_as_held}
 use Rattle.cf_effect.specs.Findings.{AreFindings, IsFound, place_among}
-use Rattle.cf_effect.specs.Following.{AreTaken, Forgets, IsPlaceOf, KeepsPath, with_place}
-use Rattle.cf_effect.specs.Layout.{AreRows, is_place, is_row_of, members_of, path_at, users_at}
+use Rattle.cf_effect.specs.Following.{AreTaken, Forgets, IsPlaceIn, IsPlaceOf, KeepsPath, Notes, StandAt, nowhere, with_place}
+use Rattle.cf_effect.specs.Layout.{AreRows, IsLayoutOf, is_place, is_row_of, members_of, path_at, users_at}
 use Rattle.cf_effect.specs.Reply.{answered, changing, closing, made_of, making, replied, replying, status_made, terms_at, updating}
 use Rattle.cf_effect.specs.Calls.{is_restore}
 use Rattle.cf_effect.specs.Fold.{effect_at}
@@ -37,7 +38,7 @@ use Rattle.cf_effect.specs.declared.held.HeldStatus.{HeldStatus}
 use Rattle.cf_effect.specs.declared.held.Pending.{Pending}
 use Rattle.cf_tree.specs.Datum.{Data}
 use Rattle.cf_effect.specs.Words.{change_first, current_at, has_physical, is_current_at, pending_of, resource_at, where_physical}
-use Rattle.cf_effect.specs.World.{StackState}
+use Rattle.cf_effect.specs.World.{StackState, no_stack}
 use Rattle.cf_effect.proofs.Closed.{any_found}
 use Rattle.cf_effect.proofs.Places.{passes_at, position_changed, position_last}
 use Rattle.cf_effect.proofs.Shown.{shown_now}
@@ -226,6 +227,10 @@ found_less path s old new a made held f = record {
   found = λ at m x h k. a.found at m x h (f.kept at x k);
 }
 
+or_none : {A : Type 0} (o : Option A) → option_or o None ≡ o
+or_none None = refl
+or_none (Some x) = refl
+
 -- a resource of a path joins those that are made
 module _ (s : StackState) (h : Held) (stands : h.superseded ≡ false) where
   current_so : (q : List ℕ) → is_current_at q h ≡ bytes_eq q h.path
@@ -233,10 +238,6 @@ module _ (s : StackState) (h : Held) (stands : h.superseded ≡ false) where
     by : (b : Bool) → (b && not h.superseded) ≡ b
     by true = ap not stands
     by false = refl
-
-  or_none : {A : Type 0} (o : Option A) → option_or o None ≡ o
-  or_none None = refl
-  or_none (Some x) = refl
 
   made_else : (q : List ℕ) → bytes_eq q h.path ≡ false → current_at q (s.made ++ h ∷ []) ≡ current_at q s.made
   made_else q e =
@@ -301,6 +302,70 @@ made_noted s path k old new a it f made held h is stands =
     follows h.path s (making h s) old new a (subst (λ p. Forgets s p old.found.items new.found.items) (sym is) f) (shows_made s h stands)
     (made ∙ ap (with_place k (length s.made)) a.made ∙ made_there s h stands (members_of s) k it.0 (apart_in s) it.1 (it.2 ∙ sym is))
     (held ∙ a.held)
+
+-- where the resources of a list stand
+pub nowhere_more : (n : ℕ) (old new : List (Option ℕ)) → old ≡ replicate n nowhere → new ≡ old ++ None ∷ [] → new ≡ replicate (n + 1) nowhere
+nowhere_more n old new e f = f ∙ ap (λ os. os ++ None ∷ []) e ∙ more n ∙ ap (λ k. replicate k nowhere) (let k : suc n ≡ n + 1 = omega arith in k) where
+  more : (n : ℕ) → replicate n nowhere ++ nowhere ∷ [] ≡ replicate (suc n) nowhere
+  more zero = refl
+  more (suc n) = ap (λ os. nowhere ∷ os) (more n)
+
+pub none_stand : (l : Layout) (places : List (Option ℕ)) → places ≡ replicate (length l.rows.items) nowhere → StandAt l [] places
+none_stand l places e = λ ms a d. e ∙ of_rows l.rows.items ∙ ap (map (λ p. place_among p [])) a.paths ∙ of_members ms where
+  of_rows : (rows : List Placed) → replicate (length rows) nowhere ≡ map (λ p. place_among p []) (map (λ (r : Placed). r.path) rows)
+  of_rows [] = refl
+  of_rows (r ∷ rows) = ap (λ os. None ∷ os) (of_rows rows)
+
+  of_members : (ms : List Member) → map (λ p. place_among p []) (map (λ (m : Member). m.path) ms) ≡ map (λ m. place_among m.path []) ms
+  of_members [] = refl
+  of_members (m ∷ ms) = ap (λ os. place_among m.path [] ∷ os) (of_members ms)
+
+abbrev with_made : List Held → StackState
+with_made hs = record no_stack { made = hs }
+
+pub stands_there : (l : Layout) (at place : ℕ) (h : Held) (old new : List (Option ℕ)) → h.superseded ≡ false → IsPlaceIn l h.path (Some place)
+    → new ≡ with_place place at old → Notes l at h old new
+stands_there l at place h old new stands it e = λ hs count so ms a d.
+    let m = it ms a in
+    e ∙ ap (λ k. with_place place k old) (sym count) ∙ ap (with_place place (length hs)) (so ms a d)
+    ∙ made_there (with_made hs) h stands ms place m.0 d m.1 m.2
+
+pub stands_nowhere : (l : Layout) (at : ℕ) (h : Held) (old new : List (Option ℕ)) → h.superseded ≡ false → IsPlaceIn l h.path None → new ≡ old
+    → Notes l at h old new
+stands_nowhere l at h old new stands it e = λ hs count so ms a d. e ∙ so ms a d ∙ others_made (with_made hs) h stands ms (it ms a)
+
+pub stands_replaced : (l : Layout) (at : ℕ) (h : Held) (old new : List (Option ℕ)) → h.superseded ≡ true → new ≡ old → Notes l at h old new
+stands_replaced l at h old new gone e = λ hs count so ms a d. e ∙ so ms a d ∙ all hs ms where
+  never : (b : Bool) → (b && not h.superseded) ≡ false
+  never true = ap not gone
+  never false = refl
+
+  one : (hs : List Held) (q : List ℕ) → place_among q (hs ++ h ∷ []) ≡ place_among q hs
+  one hs q =
+      position_last (is_current_at q) hs h
+      ∙ ap (λ b. option_or (place_among q hs) (cond b (Some (length hs)) None)) (never (bytes_eq q h.path)) ∙ or_none (place_among q hs)
+
+  all : (hs : List Held) (ms : List Member) → map (λ m. place_among m.path hs) ms ≡ map (λ m. place_among m.path (hs ++ h ∷ [])) ms
+  all hs [] = refl
+  all hs (m ∷ ms) =
+      ap (λ o. o ∷ map (λ x. place_among x.path hs) ms) (sym (one hs m.path)) ∙ ap (λ os. place_among m.path (hs ++ h ∷ []) ∷ os) (all hs ms)
+
+pub more_stand : (l : Layout) (hs : List Held) (i : ℕ) (h : Held) (old new : List (Option ℕ)) → i < length hs → h ≡ get_or hs i h → Notes l i h old new
+    → StandAt l (take i hs) old → StandAt l (take (i + 1) hs) new
+more_stand l hs i h old new within is notes so =
+    let next : suc i ≡ i + 1 = omega arith in
+    let count : length (take i hs) ≡ i = grind (arith, length-take {A = Held}) in
+    let more : take (i + 1) hs ≡ take i hs ++ h ∷ [] =
+    ap (λ k. take k hs) (sym next) ∙ take-suc hs i h within ∙ ap (λ z. take i hs ++ z ∷ []) (sym is) in
+    subst (λ xs. StandAt l xs new) (sym more) (notes (take i hs) count so)
+
+pub all_standing : {E : Type 0} (s : StackState) (l : Layout) (hs : List Held) (res : Result (Vec (Option ℕ)) E) → IsLayoutOf s (Some l)
+    → IfOk res (λ places. StandAt l hs places.items) → IfOk res (λ places. places.items ≡ map (λ m. place_among m.path hs) (members_of s))
+all_standing s l hs (Ok places) a so = so (members_of s) a (apart_in s)
+all_standing s l hs (Err e) a so = tt
+
+pub no_paths : (s : StackState) (hs : List Held) (places : List (Option ℕ)) → IsLayoutOf s None → places ≡ [] → places ≡ map (λ m. place_among m.path hs) (members_of s)
+no_paths s hs places none e = e ∙ ap (map (λ m. place_among m.path hs)) (sym none)
 
 -- the first resource of an id is changed, which stays that of its path
 module _ (change : Held → Held) (keeps : KeepsPath change) where

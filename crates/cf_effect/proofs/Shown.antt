@@ -1,7 +1,7 @@
 -- What a list of resources shows of a path is the resource that it holds there; what the resources of some paths show of these
 -- is what all show.
-use Rattle.std.proofs.Common.{◌≡◌, ℕ, List, [], ◌∷◌, ◌++◌, Bool, true, false, not, ◌&&◌, ◌||◌, Option, Some, None, refl, sym, ap, ◌∙◌, filter, option_map, true≢false}
-use Rattle.std.specs.Prelude.{cond, fold, is_some}
+use Rattle.std.proofs.Common.{◌≡◌, ℕ, List, [], ◌∷◌, ◌++◌, Bool, true, false, not, ◌&&◌, ◌||◌, Option, Some, None, refl, sym, ap, ◌∙◌, filter, map, option_map, true≢false}
+use Rattle.std.specs.Prelude.{cond}
 use Rattle.std.specs.List.{cons_option, filter_map}
 use Rattle.std.specs.Option.{option_or}
 use Rattle.std.specs.Str.{bytes_eq}
@@ -13,68 +13,33 @@ use Rattle.std.proofs.lemmas.Option.{none-some, same_Some}
 use Rattle.std.proofs.lemmas.Slice.Eq.{bytes_eq-Decides}
 use Rattle.cf_effect.specs.declared.held.Held.{Held}
 use Rattle.cf_effect.specs.Words.{current_at, is_current_at, resource_at}
-use Rattle.cf_effect.specs.Begin.{seen_in, put_seen, seen_as_held}
+use Rattle.cf_effect.specs.Begin.{seen_in, seen_as_held, shown_under}
 use Rattle.cf_effect.specs.End.{seen_now}
 use Rattle.cf_effect.specs.World.{StackState}
 use Rattle.cf_desired.proofs.Puts.{value_put}
-use Rattle.cf_desired.specs.Seeing.{SeenAt}
-use Rattle.cf_desired.specs.Seeing.{Seen}
+use Rattle.cf_desired.specs.Seeing.{Seen, SeenAt, by_names}
 
-abbrev shown : Held → SeenAt
+abbrev pub shown : Held → SeenAt
 shown h = seen_as_held h
 
-or_none : {A : Type 0} (o : Option A) → o ≡ option_or o None
-or_none None = refl
-or_none (Some a) = refl
-
--- what is seen under a name with one more that is shown, where it is not seen yet
-module _ (path : List ℕ) (h : Held) (seen : Seen) (rest : Option SeenAt) where
-  with_new : (b : Bool) → bytes_eq path h.path ≡ b → value_at h.path seen ≡ None → option_or (cond b (Some (shown h)) (value_at path seen)) rest ≡ option_or (value_at path seen) (cond b (Some (shown h)) rest)
-  with_new true e n = ap (λ o. option_or o (Some (shown h))) (sym (ap (λ p. value_at p seen) ((bytes_eq-Decides path h.path).0 e) ∙ n))
-  with_new false e n = refl
-
-  with_old : (b : Bool) (s : SeenAt) → bytes_eq path h.path ≡ b → value_at h.path seen ≡ Some s → option_or (value_at path seen) rest ≡ option_or (value_at path seen) (cond b (Some (shown h)) rest)
-  with_old true s e n =
-      let there : value_at path seen ≡ Some s = ap (λ p. value_at p seen) ((bytes_eq-Decides path h.path).0 e) ∙ n in
-      ap (λ o. option_or o rest) there ∙ sym (ap (λ o. option_or o (Some (shown h))) there)
-  with_old false s e n = refl
-
-  by_seen : (o : Option SeenAt) → value_at h.path seen ≡ o → option_or (value_at path (cond (is_some o) seen (put h.path (shown h) seen))) rest ≡ option_or (value_at path seen) (cond (bytes_eq path h.path) (Some (shown h)) rest)
-  by_seen None n = ap (λ o. option_or o rest) (value_put path h.path (shown h) seen) ∙ with_new (bytes_eq path h.path) refl n
-  by_seen (Some s) n = with_old (bytes_eq path h.path) s refl n
-
-  one_more : option_or (value_at path (put_seen seen h)) rest ≡ option_or (value_at path seen) (cond (bytes_eq path h.path) (Some (shown h)) rest)
-  one_more = by_seen (value_at h.path seen) refl
-
-mapped_with : (b : Bool) (h : Held) (o : Option Held) → cond b (Some (shown h)) (option_map shown o) ≡ option_map shown (cond (b && true) (Some h) o)
-mapped_with true h o = refl
-mapped_with false h o = refl
-
-passed_with : (b : Bool) (h : Held) (o : Option Held) → option_map shown o ≡ option_map shown (cond (b && false) (Some h) o)
-passed_with true h o = refl
-passed_with false h o = refl
-
--- behind what is seen already
-abbrev seen_behind : Seen → List Held → Seen
-seen_behind seen hs = fold put_seen seen (filter (λ x. not x.superseded) hs)
-
-shown_with :
-    (path : List ℕ) (h : Held) (hs : List Held) (seen : Seen) (gone : Bool)
-    → ((more : Seen) → value_at path (seen_behind more hs) ≡ option_or (value_at path more) (option_map shown (current_at path hs)))
-    → value_at path (fold put_seen seen (cond (not gone) (h ∷ filter (λ x. not x.superseded) hs) (filter (λ x. not x.superseded) hs)))
-    ≡ option_or (value_at path seen) (option_map shown (cond (bytes_eq path h.path && not gone) (Some h) (current_at path hs)))
-shown_with path h hs seen true ih = ih seen ∙ ap (λ o. option_or (value_at path seen) o) (passed_with (bytes_eq path h.path) h (current_at path hs))
-shown_with path h hs seen false ih =
-    ih (put_seen seen h) ∙ one_more path h seen (option_map shown (current_at path hs))
-    ∙ ap (λ o. option_or (value_at path seen) o) (mapped_with (bytes_eq path h.path) h (current_at path hs))
-
-shown_behind : (path : List ℕ) (hs : List Held) (seen : Seen) → value_at path (seen_behind seen hs) ≡ option_or (value_at path seen) (option_map shown (current_at path hs))
-shown_behind path [] seen = or_none (value_at path seen)
-shown_behind path (h ∷ hs) seen = shown_with path h hs seen h.superseded (shown_behind path hs)
-
 -- what is shown of a path is its resource
+shown_with :
+    (path : List ℕ) (h : Held) (seen : Seen) (o : Option Held) (a : Bool) → bytes_eq path h.path ≡ a → (gone : Bool) → value_at path seen ≡ option_map shown o
+    → value_at path (cond (not gone) (put h.path (shown h) seen) seen) ≡ option_map shown (cond (a && not gone) (Some h) o)
+shown_with path h seen o true k true e = e
+shown_with path h seen o false k true e = e
+shown_with path h seen o true k false e = value_put path h.path (shown h) seen ∙ ap (λ b. cond b (Some (shown h)) (value_at path seen)) k
+shown_with path h seen o false k false e = value_put path h.path (shown h) seen ∙ ap (λ b. cond b (Some (shown h)) (value_at path seen)) k ∙ e
+
+named_if : (b : Bool) (h : Held) (hs : List Held) → by_names (map shown_under (cond b (h ∷ hs) hs)) ≡ cond b (put h.path (shown h) (by_names (map shown_under hs))) (by_names (map shown_under hs))
+named_if true h hs = refl
+named_if false h hs = refl
+
 pub shown_at : (path : List ℕ) (hs : List Held) → value_at path (seen_in hs) ≡ option_map shown (current_at path hs)
-shown_at path hs = shown_behind path hs []
+shown_at path [] = refl
+shown_at path (h ∷ hs) =
+    ap (value_at path) (named_if (not h.superseded) h (filter (λ x. not x.superseded) hs))
+    ∙ shown_with path h (seen_in hs) (current_at path hs) (bytes_eq path h.path) refl h.superseded (shown_at path hs)
 
 -- of two lists the first counts, so what is shown now of a path is its resource
 pub shown_now : (path : List ℕ) (s : StackState) → value_at path (seen_now s) ≡ option_map seen_as_held (resource_at path s)
@@ -148,6 +113,6 @@ module _ (s : StackState) where
       by (Some h) i e d among f = inner h i e d among f (is_current_at q h) refl
 
     -- what the resources of some paths show of one of these
-    pub needs_shown : (ps : List (List ℕ)) → is_among q ps ≡ true → value_at q (fold put_seen [] (filter_map (λ p. resource_at p s) ps)) ≡ value_at q (seen_now s)
+    pub needs_shown : (ps : List (List ℕ)) → is_among q ps ≡ true → value_at q (by_names (map shown_under (filter_map (λ p. resource_at p s) ps))) ≡ value_at q (seen_now s)
     needs_shown ps a =
-        ap (λ hs. value_at q (fold put_seen [] hs)) (sym (all_stand ps)) ∙ shown_at q (filter_map R ps) ∙ ap (option_map shown) (one_shown ps a) ∙ sym (shown_now q s)
+        ap (λ hs. value_at q (by_names (map shown_under hs))) (sym (all_stand ps)) ∙ shown_at q (filter_map R ps) ∙ ap (option_map shown) (one_shown ps a) ∙ sym (shown_now q s)

@@ -1,5 +1,5 @@
 -- Resources of a source by their places, and what their properties come to.
-use Rattle.std.proofs.Common.{◌≡◌, ℕ, zero, suc, ◌<◌, ◌≤◌, ◌||◌, not, Bool, true, false, List, [], ◌∷◌, ◌++◌, length, map, set, find, Option, Some, None, Result, Ok, Err, IfOk, option_map, refl, ap, sym, ◌∙◌, subst, arith, cond, true≢false, inl, inr, ◌⊎◌}
+use Rattle.std.proofs.Common.{position, ◌≡◌, ℕ, zero, suc, ◌<◌, ◌≤◌, ◌||◌, not, Bool, true, false, List, [], ◌∷◌, ◌++◌, length, map, set, find, Option, Some, None, Result, Ok, Err, IfOk, option_map, refl, ap, sym, ◌∙◌, subst, arith, cond, true≢false, inl, inr, ◌⊎◌}
 use Rattle.std.specs.Prelude.{fold, is_some}
 use Rattle.std.specs.List.{AllByRecursion, cons_option, filter_map, list_any, slice_get}
 use Rattle.std.specs.Option.{option_and_then, option_map_or, option_or}
@@ -12,10 +12,9 @@ use Rattle.cf_tree.specs.Keys.{value_at}
 use Rattle.cf_tree.specs.Lists.{is_among}
 use Rattle.cf_tree.specs.Named.{all_differ}
 use Rattle.cf_tree.specs.declared.source.Source.{Source}
-use Rattle.cf_desired.specs.Seeing.{SeenAt}
 use Rattle.cf_desired.specs.declared.wanted.Evaluated.{Evaluated}
 use Rattle.cf_desired.specs.Plan.{props_at}
-use Rattle.cf_desired.specs.Seeing.{Seen}
+use Rattle.cf_desired.specs.Seeing.{Seen, SeenAt, by_names}
 use Rattle.cf_desired.specs.Shape.{shape_of}
 use Rattle.cf_desired.specs.Stays.{AgreeAt}
 use Rattle.cf_desired.specs.Valued.{resources_in}
@@ -27,17 +26,18 @@ use Rattle.cf_effect.specs.declared.findings.Found.{Found}
 use Rattle.cf_effect.specs.declared.held.Held.{Held}
 use Rattle.cf_effect.specs.declared.layout.Layout.{Layout}
 use Rattle.cf_effect.specs.declared.layout.Placed.{Placed}
-use Rattle.cf_effect.specs.Begin.{put_seen, seen_in}
+use Rattle.cf_effect.specs.Begin.{seen_in, shown_under}
 use Rattle.cf_effect.specs.End.{seen_now}
 use Rattle.cf_effect.specs.Findings.{AreFindings, FindsAt, IsFound, place_among, props_now}
 use Rattle.cf_effect.specs.declared.state.State.{State}
 use Rattle.cf_effect.specs.Outset.{Outset}
 use Rattle.cf_effect.specs.State.{before_in, source_in, state_of}
-use Rattle.cf_effect.specs.Following.{IsFoundBy, IsNothing, kept_at, resource_in, seen_of_places}
-use Rattle.cf_effect.specs.Layout.{AreRows, members_of, path_at}
+use Rattle.cf_effect.specs.Following.{IsFoundBy, IsNothing, IsPlaceIn, kept_at, resource_in, seen_of_places, stands_at}
+use Rattle.cf_effect.specs.Layout.{AreRows, is_row_of, members_of, path_at}
 use Rattle.cf_effect.specs.Words.{current_at, is_current_at, resource_at}
 use Rattle.cf_effect.specs.World.{StackState}
-use Rattle.cf_effect.proofs.Places.{first_there}
+use Rattle.cf_effect.proofs.Closed.{any_found}
+use Rattle.cf_effect.proofs.Places.{first_there, is_there, passes_at}
 use Rattle.cf_effect.proofs.Shown.{needs_shown}
 
 abbrev pub paths_in : List Member → List (List ℕ)
@@ -183,13 +183,13 @@ row_found s source l at r going a h m is =
     let same : it.0 ≡ m = same_Some it.0 m (sym it.1 ∙ is) in
     let needs : map (path_at l.rows.items) r.needs.items ≡ m.needs = it.3 ∙ ap (λ (x : Member). x.needs) same in
     let within = slice_get_within l.rows.items at r h in
-    let small : seen_of_places s r.needs.items ≡ fold put_seen [] (filter_map (λ p. resource_at p s) m.needs) =
-    ap (fold put_seen []) (resources_by s l a at (omega (arith, within)) r.needs.items it.4 ∙ ap (filter_map (λ p. resource_at p s)) needs) in
+    let small : seen_of_places s r.needs.items ≡ by_names (map shown_under (filter_map (λ p. resource_at p s) m.needs)) =
+    ap (λ hs. by_names (map shown_under hs)) (resources_by s l a at (omega (arith, within)) r.needs.items it.4 ∙ ap (filter_map (λ p. resource_at p s)) needs) in
     let place : slice_get (resources_in (shape_of source (seen_in s.before))) at ≡ Some m =
     ap (λ o. slice_get (option_map_or (λ g. resources_in (shape_of g (seen_in s.before))) o []) at) (sym going) ∙ is in
     ap (λ p. props_at source (shape_of source (seen_in s.before)) (seen_of_places s r.needs.items) p) (it.2 ∙ ap (λ (x : Member). x.path) same)
     ∙ ap (λ x. props_at source (shape_of source (seen_in s.before)) x m.path) small
-    ∙ props_rest source (seen_in s.before) (seen_now s) (fold put_seen [] (filter_map (λ p. resource_at p s) m.needs)) at m place (λ q g. needs_shown s q m.needs g)
+    ∙ props_rest source (seen_in s.before) (seen_now s) (by_names (map shown_under (filter_map (λ p. resource_at p s) m.needs))) at m place (λ q g. needs_shown s q m.needs g)
     ∙ ap (option_and_then (λ g. props_at g (shape_of g (seen_in s.before)) (seen_now s) m.path)) (sym going)
 
 -- where the resource at a place stands
@@ -250,17 +250,36 @@ of_paths : (hs : List Held) (ms : List Member) → map (λ p. place_among p hs) 
 of_paths hs [] = refl
 of_paths hs (m ∷ ms) = ap (λ os. place_among m.path hs ∷ os) (of_paths hs ms)
 
-pub findings_first : (s : StackState) (f : Findings) (rows : List Placed) → map (λ (r : Placed). r.path) rows ≡ map (λ (m : Member). m.path) (members_of s)
-    → f.made.items ≡ map (λ (r : Placed). place_among r.path s.made) rows → f.held.items ≡ map (λ (r : Placed). place_among r.path s.held) rows
-    → length f.found.items ≡ length rows → IsNothing f.found.items → AreFindings s f
-findings_first s f rows paths made held count nothing = record {
-  made = made ∙ over_paths s.made rows ∙ ap (map (λ p. place_among p s.made)) paths ∙ of_paths s.made (members_of s);
-  held = held ∙ over_paths s.held rows ∙ ap (map (λ p. place_among p s.held)) paths ∙ of_paths s.held (members_of s);
-  count =
-      count ∙ sym (length-map rows (λ (r : Placed). r.path)) ∙ ap length paths
-      ∙ length-map (members_of s) (λ (m : Member). m.path);
+pub findings_first : (s : StackState) (f : Findings) → f.made.items ≡ map (λ m. place_among m.path s.made) (members_of s)
+    → f.held.items ≡ map (λ m. place_among m.path s.held) (members_of s) → length f.found.items ≡ length f.made.items → IsNothing f.found.items → AreFindings s f
+findings_first s f made held count nothing = record {
+  made = made;
+  held = held;
+  count = count ∙ ap length made ∙ length-map (members_of s) (λ m. place_among m.path s.made);
   found = λ at m e h k. absurd (nothing at e k);
 }
+
+-- where a path stands in a layout
+any_row : (path : List ℕ) (rows : List Placed) → list_any (is_row_of path) rows ≡ list_any (bytes_eq path) (map (λ (r : Placed). r.path) rows)
+any_row path [] = refl
+any_row path (r ∷ rows) = ap (λ b. bytes_eq path r.path || b) (any_row path rows)
+
+pub path_placed : (l : Layout) (path : List ℕ) (o : Option ℕ) → o ≡ value_at path l.places → IsPlaceIn l path o
+path_placed l path None e = λ ms a.
+    let none : is_some (position (is_row_of path) l.rows.items) ≡ false = ap is_some (sym (a.places path) ∙ sym e) in
+    ap (list_any (bytes_eq path)) (sym a.paths) ∙ sym (any_row path l.rows.items) ∙ any_found (is_row_of path) l.rows.items
+    ∙ sym (is_there (is_row_of path) l.rows.items) ∙ none
+path_placed l path (Some at) e = λ ms a.
+    let row = passes_at (is_row_of path) l.rows.items at (sym (a.places path) ∙ sym e) in
+    let it = row_at ms l a at row.0 row.1 in
+    (it.0, it.1, sym it.2 ∙ sym ((bytes_eq-Decides path row.0.path).0 row.2))
+
+pub near_placed : (l : Layout) (path : List ℕ) (near : ℕ) (so : Bool) → so ≡ stands_at l near path → so ≡ true → IsPlaceIn l path (Some near)
+near_placed l path near so is t = λ ms a. by ms a (slice_get l.rows.items near) refl (sym is ∙ t) where
+  by : (ms : List Member) → AreRows ms l → (o : Option Placed) → slice_get l.rows.items near ≡ o → option_map_or (λ r. bytes_eq r.path path) o false ≡ true
+      → (m : Member) × (slice_get ms near ≡ Some m) × (m.path ≡ path)
+  by ms a None h e = absurd (true≢false (sym e))
+  by ms a (Some r) h e = let it = row_at ms l a near r h in (it.0, it.1, sym it.2 ∙ (bytes_eq-Decides r.path path).0 e)
 
 -- findings rest on what is made, held, was held before and is gone by
 pub findings_stay : (s t : StackState) (f : Findings) → t.made ≡ s.made → t.held ≡ s.held → t.before ≡ s.before → t.going ≡ s.going → AreFindings s f → AreFindings t f

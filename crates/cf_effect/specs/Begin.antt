@@ -1,15 +1,12 @@
 -- How an operation begins on its stack, and how a change set joins it (User Guide: creating, updating and deleting a stack,
 -- continuing an update rollback, change sets).
-use Rattle.std.specs.Prelude.{ℕ, Bool, true, false, ◌&&◌, not, List, [], ◌∷◌, ◌++◌, Option, Some, None, map, filter, flat_map, fold, find, is_some, if◌then◌else◌}
-use Rattle.std.specs.Str.{bytes_eq}
-use Rattle.cf_tree.specs.Keys.{put, value_at}
+use Rattle.std.specs.Prelude.{ℕ, Bool, true, false, not, List, [], ◌∷◌, ◌++◌, Option, Some, None, map, filter, flat_map, find, if◌then◌else◌}
 use Rattle.cf_tree.specs.Lists.{is_among}
 use Rattle.cf_tree.specs.declared.source.Source.{Source}
 use Rattle.cf_entry.specs.declared.entry.Begun.{Begun}
 use Rattle.cf_entry.specs.declared.entry.Begun.TheVariants as begin
 use Rattle.cf_entry.specs.declared.turn.Why.TheVariants as why
-use Rattle.cf_desired.specs.Seeing.{SeenAt}
-use Rattle.cf_desired.specs.Seeing.{Seen}
+use Rattle.cf_desired.specs.Seeing.{Seen, SeenAt, by_names}
 use Rattle.cf_desired.specs.Whole.{export_names_of}
 use Rattle.cf_effect.specs.declared.call.Call.{Call}
 use Rattle.cf_effect.specs.declared.held.Held.{Held}
@@ -33,11 +30,11 @@ source_for name number source = record source { stack = name; number = number }
 abbrev pub seen_as_held : Held → SeenAt
 seen_as_held h = record { physical = Some h.physical; attrs = Some h.attrs }
 
-abbrev pub put_seen : Seen → Held → Seen
-put_seen seen h = if is_some (value_at h.path seen) then seen else put h.path (seen_as_held h) seen
+abbrev pub shown_under : Held → List ℕ × SeenAt
+shown_under h = (h.path, seen_as_held h)
 
 abbrev pub seen_in : List Held → Seen
-seen_in hs = fold put_seen [] (filter (λ h. not h.superseded) hs)
+seen_in hs = by_names (map shown_under (filter (λ h. not h.superseded) hs))
 
 -- A change set joins the others of its stack.
 abbrev pub number_reviewed : StackState → ℕ

@@ -1,16 +1,20 @@
 -- How findings are worked out, and how they follow what an outcome changes (this project's own).
-use Rattle.std.specs.Prelude.{◌≡◌, ℕ, zero, suc, false, List, [], ◌∷◌, Option, Some, None, fold, length, slice_get}
-use Rattle.std.specs.List.{filter_map}
-use Rattle.std.specs.Option.{option_and_then, option_or}
+use Rattle.std.specs.Prelude.{◌≡◌, ℕ, Bool, zero, suc, true, false, List, [], ◌∷◌, ◌++◌, Option, Some, None, length, map, slice_get}
+use Rattle.std.specs.List.{filter_map, list_any}
+use Rattle.std.specs.Option.{option_and_then, option_map_or, option_or}
+use Rattle.std.specs.Str.{bytes_eq}
 use Rattle.cf_tree.specs.Lists.{is_among}
+use Rattle.cf_tree.specs.Named.{all_differ}
 use Rattle.cf_desired.specs.declared.wanted.Evaluated.{Evaluated}
-use Rattle.cf_desired.specs.Seeing.{Seen}
+use Rattle.cf_desired.specs.Seeing.{Seen, by_names}
 use Rattle.cf_desired.specs.Whole.{known_of}
 use Rattle.cf_desired.specs.Work.{Member}
 use Rattle.cf_effect.specs.declared.findings.Found.{Found}
 use Rattle.cf_effect.specs.declared.held.Held.{Held}
-use Rattle.cf_effect.specs.Begin.{put_seen}
-use Rattle.cf_effect.specs.Layout.{is_place, members_of}
+use Rattle.cf_effect.specs.declared.layout.Layout.{Layout}
+use Rattle.cf_effect.specs.Begin.{shown_under}
+use Rattle.cf_effect.specs.Findings.{place_among}
+use Rattle.cf_effect.specs.Layout.{AreRows, is_place, members_of}
 use Rattle.cf_effect.specs.Words.{resource_at}
 use Rattle.cf_effect.specs.World.{StackState}
 
@@ -23,7 +27,7 @@ abbrev pub resource_in : StackState → ℕ → Option Held
 resource_in s at = option_and_then (λ m. resource_at m.path s) (slice_get (members_of s) at)
 
 abbrev pub seen_of_places : StackState → List ℕ → Seen
-seen_of_places s places = fold put_seen [] (filter_map (resource_in s) places)
+seen_of_places s places = by_names (map shown_under (filter_map (resource_in s) places))
 
 -- nothing is found
 abbrev pub IsNothing : List (Option Found) → Type 0
@@ -62,3 +66,23 @@ pub record KeepsPath (change : Held → Held) : Type 0 where
   pub path : (h : Held) → (change h).path ≡ h.path
   pub physical : (h : Held) → (change h).physical ≡ h.physical
   pub superseded : (h : Held) → (change h).superseded ≡ h.superseded
+
+-- the path stands at this place of a layout; and this is its place there, or it is at none
+abbrev pub stands_at : Layout → ℕ → List ℕ → Bool
+stands_at l at path = option_map_or (λ r. bytes_eq r.path path) (slice_get l.rows.items at) false
+
+abbrev pub IsPlaceIn : Layout → List ℕ → Option ℕ → Type 0
+IsPlaceIn l path None = (ms : List Member) → AreRows ms l → list_any (bytes_eq path) (map (λ m. m.path) ms) ≡ false
+IsPlaceIn l path (Some at) = (ms : List Member) → AreRows ms l → (m : Member) × (slice_get ms at ≡ Some m) × (m.path ≡ path)
+
+-- at the place of each path of a layout is the place of the resource that a list holds there
+abbrev pub StandAt : Layout → List Held → List (Option ℕ) → Type 0
+StandAt l hs places =
+    (ms : List Member) → AreRows ms l → all_differ bytes_eq (map (λ m. m.path) ms) ≡ true → places ≡ map (λ m. place_among m.path hs) ms
+
+abbrev pub nowhere : Option ℕ
+nowhere = None
+
+-- one more resource of a list is noted, which is the next
+abbrev pub Notes : Layout → ℕ → Held → List (Option ℕ) → List (Option ℕ) → Type 0
+Notes l at h old new = (hs : List Held) → length hs ≡ at → StandAt l hs old → StandAt l (hs ++ h ∷ []) new

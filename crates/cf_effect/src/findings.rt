@@ -1,5 +1,5 @@
 //! What is kept of the paths of an operation's source beside the record of its stack.
-ghost use Rattle.std.specs.Prelude.{◌≡◌, ℕ, IfOk, IfSome, None, Some, map, option_copied, length, set, slice_get};
+ghost use Rattle.std.specs.Prelude.{◌≡◌, ℕ, IfOk, IfSome, None, Some, map, option_copied, length, replicate, set, slice_get};
 ghost use Rattle.std.specs.Option.{option_and_then};
 ghost use Rattle.cf_desired.specs.Plan.{props_at};
 ghost use Rattle.cf_desired.specs.Shape.{shape_of};
@@ -7,10 +7,11 @@ ghost use Rattle.cf_desired.specs.Whole.{known_of};
 ghost use Rattle.cf_desired.specs.Work.{Member};
 ghost use Rattle.cf_effect.specs.Begin.{seen_in};
 ghost use Rattle.cf_effect.specs.Findings.{AreFindings, FindsAt, place_among};
-ghost use Rattle.cf_effect.specs.Following.{IsFoundBy, IsNothing, kept_at, resource_in, seen_of_places};
+ghost use Rattle.cf_effect.specs.Following.{IsFoundBy, IsNothing, Notes, StandAt, kept_at, nowhere, resource_in, seen_of_places};
 ghost use Rattle.cf_effect.specs.Layout.{IsLayoutOf, members_of};
 ghost use Rattle.cf_effect.specs.State.{state_of};
 
+use crate::following::put_place;
 use crate::held::Held;
 use crate::layout::{Layout, Placed};
 use crate::outset::Outset;
@@ -59,28 +60,69 @@ fn rows_of(state: &State) -> &[Placed]
     }
 }
 
-/// The place in a list of the resource that it holds at a path.
-fn place_among(path: &Txt, helds: &[Held]) -> Option<usize>
-    ensures { result ≡ place_among path.now helds.now }
-{
-    helds
-        .iter()
-        .position(|held| *path == held.path && !held.superseded)
-}
-
-/// The places in a list of the resources that it holds at the paths of these rows.
-fn places_among(
-    alloc: Global,
-    rows: &[Placed],
-    helds: &[Held],
-) -> Result<Vec<Option<usize>>, AllocError>
-    ensures { IfOk result (λ places. places.items ≡ map (λ r. place_among r.path helds.now) rows.now) }
+/// So many places of nothing.
+#[tactic(auto, using(crate::proofs::Noted::nowhere_more))]
+fn no_places(alloc: Global, count: usize) -> Result<Vec<Option<usize>>, AllocError>
+    ensures { IfOk result (λ places. places.items ≡ replicate count nowhere) }
 {
     let mut places = Vec::new(alloc);
-    for row in rows {
-        places.push(place_among(&row.path, helds))?;
+    for _ in 0..count {
+        places.push(None)?;
     }
     Ok(places)
+}
+
+/// Notes where a resource stands, unless it is superseded or its path has no place; it gives the place at which the next one may be
+/// looked for first.
+#[tactic(auto, using(crate::proofs::Noted::stands_replaced))]
+fn note_place(
+    layout: &Layout,
+    places: &mut Vec<Option<usize>>,
+    near: usize,
+    at: usize,
+    held: &Held,
+) -> usize
+    ensures { Notes layout.now at held.now places.old.items places.new.items }
+{
+    if held.superseded {
+        return near;
+    }
+    match layout.place_near(near, &held.path) {
+        Some(place) => {
+            put_place(places, place, at);
+            place.saturating_add(1)
+        }
+        None => near,
+    }
+}
+
+/// The places in a list of the resources that it holds at the paths of a layout. Resources in the order of work are found at once, any
+/// other by halves.
+#[tactic(auto, using(crate::proofs::Noted::none_stand, crate::proofs::Noted::more_stand))]
+fn places_among(
+    alloc: Global,
+    layout: &Layout,
+    helds: &[Held],
+) -> Result<Vec<Option<usize>>, AllocError>
+    ensures { IfOk result (λ places. StandAt layout.now helds.now places.items) }
+{
+    let mut places = no_places(alloc, layout.rows.len())?;
+    let mut near = 0;
+    for (at, held) in helds.iter().enumerate() {
+        near = note_place(layout, &mut places, near, at, held);
+    }
+    Ok(places)
+}
+
+/// The places in a list of the resources that it holds at the paths of the source.
+#[tactic(auto, using(crate::proofs::Noted::no_paths))]
+fn places_in(alloc: Global, state: &State, helds: &[Held]) -> Result<Vec<Option<usize>>, AllocError>
+    ensures { IfOk result (λ places. places.items ≡ map (λ m. place_among m.path helds.now) (members_of (state_of state.now))) }
+{
+    match layout_of(state) {
+        Some(layout) => places_among(alloc, layout, helds),
+        None => Ok(Vec::new(alloc)),
+    }
 }
 
 /// Nothing is worked out of so many paths.
@@ -101,14 +143,12 @@ fn nothing_found(alloc: Global, count: usize) -> Result<Vec<Option<Found>>, Allo
 /// # Errors
 ///
 /// Only for want of memory.
-#[tactic(auto, using(crate::proofs::Sought::findings_first))]
 pub fn findings_of(alloc: Global, state: &State) -> Result<Findings, AllocError>
     ensures { IfOk result (AreFindings (state_of state.now)) }
 {
-    let rows = rows_of(state);
-    let made = places_among(alloc, rows, state.made.as_slice())?;
-    let held = places_among(alloc, rows, state.held.as_slice())?;
-    let found = nothing_found(alloc, rows.len())?;
+    let made = places_in(alloc, state, state.made.as_slice())?;
+    let held = places_in(alloc, state, state.held.as_slice())?;
+    let found = nothing_found(alloc, made.len())?;
     Ok(Findings { made, held, found })
 }
 
@@ -161,8 +201,10 @@ fn seen_at(
     ensures { IfOk result (λ seen. seen ≡ seen_of_places (state_of state.now) needs.now) }
 {
     let mut seen = Seen::new(alloc);
-    for at in needs {
-        if let Some(held) = resource_of(state, findings, *at) {
+    let mut left = needs.len();
+    while left > 0 {
+        left -= 1;
+        if let Some(held) = resource_of(state, findings, needs[left]) {
             see(alloc, &mut seen, held)?;
         }
     }

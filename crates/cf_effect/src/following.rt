@@ -68,7 +68,7 @@ fn take_place(kept: &mut Option<usize>, place: usize)
 
 /// Puts a place in, where there is none yet.
 #[tactic(auto, using(crate::proofs::Noted::put_within, crate::proofs::Noted::put_past))]
-fn put_place(places: &mut Vec<Option<usize>>, at: usize, place: usize)
+pub(crate) fn put_place(places: &mut Vec<Option<usize>>, at: usize, place: usize)
     ensures { places.new.items ≡ with_place at place places.old.items }
 {
     if at < places.len() {

@@ -6,6 +6,7 @@ ghost use Rattle.cf_desired.specs.ComeFirst.{ComeFirst};
 ghost use Rattle.cf_desired.specs.Turns.{pathed};
 ghost use Rattle.cf_desired.specs.Work.{Member};
 ghost use Rattle.cf_effect.specs.Layout.{AreRows, users_at};
+ghost use Rattle.cf_effect.specs.Following.{IsPlaceIn, stands_at};
 ghost use Rattle.cf_effect.specs.Laying.{AreUsers, HasPlaces, JoinsUsers, is_user, laid_row, put_place, row_told};
 
 use cf_desired::Terms as Termed;
@@ -34,6 +35,28 @@ impl Layout {
         ensures { result ≡ value_at path.now self.now.places }
     {
         self.places.get(path.as_str()).copied()
+    }
+
+    /// Whether a path stands at a place.
+    fn stands_at(&self, at: usize, path: &Txt) -> bool
+        ensures { result ≡ stands_at self.now at path.now }
+    {
+        match self.row_at(at) {
+            Some(row) => row.path == *path,
+            None => false,
+        }
+    }
+
+    /// The place of a path, which is looked for at a place first.
+    #[tactic(auto, using(crate::proofs::Sought::path_placed))]
+    pub(crate) fn place_near(&self, near: usize, path: &Txt) -> Option<usize>
+        ensures { IsPlaceIn self.now path.now result }
+    {
+        if self.stands_at(near, path) {
+            Some(near)
+        } else {
+            self.place_of(path)
+        }
     }
 
     /// The row at a place.

@@ -1,6 +1,8 @@
 //! What the resources of a stack show to a template.
-ghost use Rattle.std.specs.Prelude.{◌≡◌, ◌++◌, IfOk, filter, fold, not};
-ghost use Rattle.cf_effect.specs.Begin.{put_seen, seen_as_held, seen_in};
+ghost use Rattle.std.specs.Prelude.{◌≡◌, ◌++◌, ℕ, List, IfOk, filter, map, not};
+ghost use Rattle.cf_tree.specs.Keys.{put};
+ghost use Rattle.cf_desired.specs.Seeing.{SeenAt, by_names};
+ghost use Rattle.cf_effect.specs.Begin.{seen_as_held, seen_in, shown_under};
 
 use crate::held::Held;
 use cf_desired::{Seen, SeenAt};
@@ -21,14 +23,11 @@ fn shown(alloc: Global, held: &Held) -> Result<SeenAt, AllocError>
     }
 }
 
-/// Adds what a resource shows of its path, unless another one shows it already. After an error
+/// Adds what a resource shows of its path, in place of what another one shows there. After an error
 /// nothing is said of what is seen.
 pub(crate) fn see(alloc: Global, seen: &mut Seen, held: &Held) -> Result<(), AllocError>
-    ensures { IfOk result (λ _. seen.new ≡ put_seen seen.old held.now) }
+    ensures { IfOk result (λ _. seen.new ≡ put held.now.path (seen_as_held held.now) seen.old) }
 {
-    if seen.get(held.path.as_str()).is_some() {
-        return Ok(());
-    }
     let path = held.path.try_clone(alloc)?;
     match shown(alloc, held) {
         Ok(shown) => seen.insert(path, shown),
@@ -36,12 +35,15 @@ pub(crate) fn see(alloc: Global, seen: &mut Seen, held: &Held) -> Result<(), All
     }
 }
 
-/// Adds what a list of resources shows, but for those that are superseded. After an error nothing is
-/// said of what is seen.
+/// Puts what a list of resources shows before what others show, but for those that are superseded.
+/// After an error nothing is said of what is seen.
 fn see_each(alloc: Global, seen: &mut Seen, helds: &[Held]) -> Result<(), AllocError>
-    ensures { IfOk result (λ _. seen.new ≡ fold put_seen seen.old (filter (λ h. not h.superseded) helds.now)) }
+    ensures { IfOk result (λ _. (others : List (List ℕ × SeenAt)) → seen.old ≡ by_names others → seen.new ≡ by_names (map shown_under (filter (λ h. not h.superseded) helds.now) ++ others)) }
 {
-    for held in helds {
+    let mut at = helds.len();
+    while at > 0 {
+        at -= 1;
+        let held = &helds[at];
         if !held.superseded {
             see(alloc, seen, held)?;
         }
@@ -76,8 +78,8 @@ pub(crate) fn seen_in_both(
 ) -> Result<Seen, AllocError>
     ensures { IfOk result (λ seen. seen ≡ seen_in (first.now ++ second.now)) }
 {
-    let mut seen = seen_in(alloc, first)?;
-    match see_each(alloc, &mut seen, second) {
+    let mut seen = seen_in(alloc, second)?;
+    match see_each(alloc, &mut seen, first) {
         Ok(()) => Ok(seen),
         Err(failed) => {
             drop(seen);

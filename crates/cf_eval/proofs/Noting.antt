@@ -4,6 +4,7 @@ use Rattle.std.specs.Prelude.{cond, option_map, is_some, IsSome}
 use Rattle.std.specs.Str.{bytes_eq}
 use Rattle.std.proofs.lemmas.Slice.Eq.{bytes_eq-Decides}
 use Rattle.cf_tree.specs.Keys.{value_at, put}
+use Rattle.cf_tree.specs.Lists.{is_among}
 use Rattle.cf_tree.specs.Tests.{Test}
 use Rattle.cf_tree.proofs.Lookups.{put_here, put_else}
 use Rattle.cf_tree.specs.declared.bound.Verdict.{Verdict}
@@ -13,7 +14,7 @@ use Rattle.cf_eval.specs.Outcome.{Outcome, Stop, fault, below, undecided, got, l
 use Rattle.cf_eval.specs.Scope.{Scope, decided_at}
 use Rattle.cf_eval.specs.ScopeOf.{among, verdict_of}
 use Rattle.cf_eval.specs.Functions.{or_fault}
-use Rattle.cf_eval.specs.Conditions.{test_found, condition_found, decided_by, is_one_of}
+use Rattle.cf_eval.specs.Conditions.{test_found, condition_found, decided_by}
 use Rattle.cf_eval.specs.Gives.{part_of, Stops}
 use Rattle.cf_eval.specs.declared.fault.Stop as broken
 use Rattle.cf_eval.specs.declared.fault.Stop.TheVariants as stop
@@ -34,12 +35,12 @@ either : (a b : Bool) (P : Type 0) → (a || b) ≡ true → (a ≡ true → P) 
 either true b P h f g = f refl
 either false b P h f g = g h
 
-pub entered : (m n : List ℕ) (under : List (List ℕ)) → is_one_of m (under ++ n ∷ []) ≡ (is_one_of m under || bytes_eq n m)
-entered m n [] = or_false (bytes_eq n m) where
+pub entered : (m n : List ℕ) (under : List (List ℕ)) → is_among m (under ++ n ∷ []) ≡ (is_among m under || bytes_eq m n)
+entered m n [] = or_false (bytes_eq m n) where
   or_false : (b : Bool) → (b || false) ≡ b
   or_false true = refl
   or_false false = refl
-entered m n (u ∷ us) = ap (λ b. bytes_eq u m || b) (entered m n us) ∙ sym (or_assoc (bytes_eq u m) (is_one_of m us) (bytes_eq n m)) where
+entered m n (u ∷ us) = ap (λ b. bytes_eq m u || b) (entered m n us) ∙ sym (or_assoc (bytes_eq m u) (is_among m us) (bytes_eq m n)) where
   or_assoc : (a b c : Bool) → ((a || b) || c) ≡ (a || (b || c))
   or_assoc true b c = refl
   or_assoc false b c = refl
@@ -53,22 +54,22 @@ no_more true c m n h l = subst (λ d. cond d m (suc m) ≤ n) (sym (h refl)) l
 no_more false true m n h l = omega arith
 no_more false false m n h l = omega arith
 
-stays_entered : (m n : List ℕ) (under : List (List ℕ)) → is_one_of m under ≡ true → is_one_of m (under ++ n ∷ []) ≡ true
+stays_entered : (m n : List ℕ) (under : List (List ℕ)) → is_among m under ≡ true → is_among m (under ++ n ∷ []) ≡ true
 stays_entered m n under h = entered m n under ∙ or_first _ _ h
 
 fewer_left : (n : List ℕ) (under : List (List ℕ)) (cs : List (List ℕ × Test)) → left_of (under ++ n ∷ []) cs ≤ left_of under cs
 fewer_left n under [] = omega arith
-fewer_left n under (c ∷ cs) = no_more (is_one_of c.0 under) (is_one_of c.0 (under ++ n ∷ [])) _ _ (stays_entered c.0 n under) (fewer_left n under cs)
+fewer_left n under (c ∷ cs) = no_more (is_among c.0 under) (is_among c.0 (under ++ n ∷ [])) _ _ (stays_entered c.0 n under) (fewer_left n under cs)
 
-one_less_by : (n : List ℕ) (under : List (List ℕ)) (c : List ℕ × Test) (cs : List (List ℕ × Test)) (b : Bool) → bytes_eq n c.0 ≡ b → is_one_of n under ≡ false → (b ≡ false → left_of (under ++ n ∷ []) cs < left_of under cs)
+one_less_by : (n : List ℕ) (under : List (List ℕ)) (c : List ℕ × Test) (cs : List (List ℕ × Test)) (b : Bool) → bytes_eq n c.0 ≡ b → is_among n under ≡ false → (b ≡ false → left_of (under ++ n ∷ []) cs < left_of under cs)
     → left_of (under ++ n ∷ []) (c ∷ cs) < left_of under (c ∷ cs)
 one_less_by n under c cs true e out less =
     let same : n ≡ c.0 = (bytes_eq-Decides n c.0).0 e in
-    let before : is_one_of c.0 under ≡ false = subst (λ m. is_one_of m under ≡ false) same out in
-    let after : is_one_of c.0 (under ++ n ∷ []) ≡ true = entered c.0 n under ∙ or_second (is_one_of c.0 under) _ e in
+    let before : is_among c.0 under ≡ false = subst (λ m. is_among m under ≡ false) same out in
+    let after : is_among c.0 (under ++ n ∷ []) ≡ true = entered c.0 n under ∙ or_second (is_among c.0 under) _ ((bytes_eq-Decides c.0 n).1 (sym same)) in
     let fewer = fewer_left n under cs in
     rw (before, after) (omega arith)
-one_less_by n under c cs false e out less = step (is_one_of c.0 under) (is_one_of c.0 (under ++ n ∷ [])) (stays_entered c.0 n under) (less refl) where
+one_less_by n under c cs false e out less = step (is_among c.0 under) (is_among c.0 (under ++ n ∷ [])) (stays_entered c.0 n under) (less refl) where
   step : (b d : Bool) → (b ≡ true → d ≡ true) → left_of (under ++ n ∷ []) cs < left_of under cs → cond d (left_of (under ++ n ∷ []) cs) (suc (left_of (under ++ n ∷ []) cs)) < cond b (left_of under cs) (suc (left_of under cs))
   step true d h l = subst (λ f. cond f (left_of (under ++ n ∷ []) cs) (suc (left_of (under ++ n ∷ []) cs)) < left_of under cs) (sym (h refl)) l
   step false true h l = omega arith
@@ -77,7 +78,7 @@ one_less_by n under c cs false e out less = step (is_one_of c.0 under) (is_one_o
 declared_after : (n : List ℕ) (c : List ℕ × Test) (cs : List (List ℕ × Test)) (d : Test) → bytes_eq n c.0 ≡ false → value_at n (c ∷ cs) ≡ Some d → value_at n cs ≡ Some d
 declared_after n c cs d e h = rw e at h
 
-pub one_less : (n : List ℕ) (under : List (List ℕ)) (cs : List (List ℕ × Test)) (d : Test) → value_at n cs ≡ Some d → is_one_of n under ≡ false → left_of (under ++ n ∷ []) cs < left_of under cs
+pub one_less : (n : List ℕ) (under : List (List ℕ)) (cs : List (List ℕ × Test)) (d : Test) → value_at n cs ≡ Some d → is_among n under ≡ false → left_of (under ++ n ∷ []) cs < left_of under cs
 one_less n under [] d h out = let no : ⊥ = cc in absurd no
 one_less n under (c ∷ cs) d h out = one_less_by n under c cs (bytes_eq n c.0) refl out (λ e. one_less n under cs d (declared_after n c cs d e h) out)
 
@@ -109,7 +110,7 @@ module _ (s : Scope) (conds : List (List ℕ × Test)) where
   some_no : (v : Verdict) (o : Option Verdict) → o ≡ Some v → o ≡ None → ⊥
   some_no v o h k = cc
 
-  declared : (left : ℕ) (under : List (List ℕ)) (at name : List ℕ) (c : Test) → is_one_of name under ≡ false → value_at name conds ≡ Some c
+  declared : (left : ℕ) (under : List (List ℕ)) (at name : List ℕ) (c : Test) → is_among name under ≡ false → value_at name conds ≡ Some c
       → condition_found (suc left) s conds under at name ≡ test_found (decided_by (condition_found left s conds (under ++ name ∷ [])) s) None c
   declared left under at name c out h = rw (out, h) refl
 
@@ -119,20 +120,20 @@ module _ (s : Scope) (conds : List (List ℕ × Test)) where
       → (left : ℕ) (under : List (List ℕ)) (at : List ℕ) → Apart under (put name v done) → left_of under conds ≤ left → condition_found left s conds under at name ≡ part_of (verdict_of v)
   noted_one done name v c right fresh is verdict left under at apart enough =
       by_left left enough where
-        out_by : (b : Bool) → is_one_of name under ≡ b → b ≡ false
+        out_by : (b : Bool) → is_among name under ≡ b → b ≡ false
         out_by true e = absurd (some_no v (value_at name (put name v done)) (put_here name v done) (apart name e))
         out_by false e = refl
 
-        out : is_one_of name under ≡ false
-        out = out_by (is_one_of name under) refl
+        out : is_among name under ≡ false
+        out = out_by (is_among name under) refl
 
-        older : (m : List ℕ) (b : Bool) → bytes_eq m name ≡ b → is_one_of m under ≡ true → value_at m done ≡ None
+        older : (m : List ℕ) (b : Bool) → bytes_eq m name ≡ b → is_among m under ≡ true → value_at m done ≡ None
         older m true e h = subst (λ k. value_at k done ≡ None) (sym ((bytes_eq-Decides m name).0 e)) fresh
         older m false e h = sym (put_else m name v done e) ∙ apart m h
 
         apart_now : Apart (under ++ name ∷ []) done
-        apart_now m h = either (is_one_of m under) (bytes_eq name m) (value_at m done ≡ None) (sym (entered m name under) ∙ h) (older m (bytes_eq m name) refl)
-            (λ e. subst (λ k. value_at k done ≡ None) ((bytes_eq-Decides name m).0 e) fresh)
+        apart_now m h = either (is_among m under) (bytes_eq m name) (value_at m done ≡ None) (sym (entered m name under) ∙ h) (older m (bytes_eq m name) refl)
+            (λ e. subst (λ k. value_at k done ≡ None) (sym ((bytes_eq-Decides m name).0 e)) fresh)
 
         less : left_of (under ++ name ∷ []) conds < left_of under conds
         less = one_less name under conds c is out
@@ -166,22 +167,22 @@ module _ (s : Scope) (conds : List (List ℕ × Test)) where
     by_name true e = absurd (some_no w (value_at m done) (ext m w h) (subst (λ k. value_at k done ≡ None) (sym ((bytes_eq-Decides m name).0 e)) fresh))
     by_name false e = put_else m name v done e ∙ ext m w h
 
-  pub apart_put : (under : List (List ℕ)) (done : List (List ℕ × Verdict)) (name : List ℕ) (v : Verdict) → Apart under done → is_one_of name under ≡ false → Apart under (put name v done)
+  pub apart_put : (under : List (List ℕ)) (done : List (List ℕ × Verdict)) (name : List ℕ) (v : Verdict) → Apart under done → is_among name under ≡ false → Apart under (put name v done)
   apart_put under done name v apart out m h = by_name (bytes_eq m name) refl where
     by_name : (b : Bool) → bytes_eq m name ≡ b → value_at m (put name v done) ≡ None
-    by_name true e = absurd (true≢false (sym h ∙ ap (λ k. is_one_of k under) ((bytes_eq-Decides m name).0 e) ∙ out))
+    by_name true e = absurd (true≢false (sym h ∙ ap (λ k. is_among k under) ((bytes_eq-Decides m name).0 e) ∙ out))
     by_name false e = put_else m name v done e ∙ apart m h
 
   pub apart_enter : (under : List (List ℕ)) (done : List (List ℕ × Verdict)) (name : List ℕ) → Apart under done → value_at name done ≡ None → Apart (under ++ name ∷ []) done
   apart_enter under done name apart fresh m h =
-      either (is_one_of m under) (bytes_eq name m) (value_at m done ≡ None) (sym (entered m name under) ∙ h) (apart m)
-      (λ e. subst (λ k. value_at k done ≡ None) ((bytes_eq-Decides name m).0 e) fresh)
+      either (is_among m under) (bytes_eq m name) (value_at m done ≡ None) (sym (entered m name under) ∙ h) (apart m)
+      (λ e. subst (λ k. value_at k done ≡ None) (sym ((bytes_eq-Decides m name).0 e)) fresh)
 
   pub apart_leave : (under : List (List ℕ)) (done : List (List ℕ × Verdict)) (name : List ℕ) → Apart (under ++ name ∷ []) done → Apart under done
   apart_leave under done name apart m h = apart m (stays_entered m name under h)
 
   pub entered_fresh : (under : List (List ℕ)) (done : List (List ℕ × Verdict)) (name : List ℕ) → Apart (under ++ name ∷ []) done → value_at name done ≡ None
-  entered_fresh under done name apart = apart name (entered name name under ∙ or_second (is_one_of name under) _ ((bytes_eq-Decides name name).1 refl))
+  entered_fresh under done name apart = apart name (entered name name under ∙ or_second (is_among name under) _ ((bytes_eq-Decides name name).1 refl))
 
   pub right_nothing : AreNotedRight s conds []
   right_nothing m v h = let no : ⊥ = cc in absurd no
@@ -257,7 +258,7 @@ stop_bad g x y why at e a = let b : Agrees g {A = Bool} (bad (fault why at)) y =
 pub stop_below : (g : List ℕ → List ℕ → Outcome Bool) (x y : Outcome Bool) (why : EvalWhy) (stack at : List ℕ) → x ≡ bad (below why stack at) → Agrees g x y → y ≡ bad (below why stack at)
 stop_below g x y why stack at e a = let b : Agrees g {A = Bool} (bad (below why stack at)) y = subst (λ z. Agrees g z y) e a in b
 
-pub noted_all : (s : Scope) (conds : List (List ℕ × Test)) (under : List (List ℕ)) (old done : List (List ℕ × Verdict)) (name : List ℕ) (v : Verdict) (c : Test) → IsDecided s conds (under ++ name ∷ []) old done c v → value_at name conds ≡ Some c → is_one_of name under ≡ false
+pub noted_all : (s : Scope) (conds : List (List ℕ × Test)) (under : List (List ℕ)) (old done : List (List ℕ × Verdict)) (name : List ℕ) (v : Verdict) (c : Test) → IsDecided s conds (under ++ name ∷ []) old done c v → value_at name conds ≡ Some c → is_among name under ≡ false
     → IsNoted s conds under old (put name v done) name v
 noted_all s conds under old done name v c settled is out =
     let fresh = entered_fresh s conds under done name settled.apart in
@@ -269,10 +270,10 @@ noted_all s conds under old done name v c settled is out =
       declared = ap is_some is;
     }
 
-pub one_at_least : (under : List (List ℕ)) (conds : List (List ℕ × Test)) (name : List ℕ) (c : Test) (left : ℕ) → value_at name conds ≡ Some c → is_one_of name under ≡ false → left_of under conds ≤ left → left_of (under ++ name ∷ []) conds + 1 ≤ left
+pub one_at_least : (under : List (List ℕ)) (conds : List (List ℕ × Test)) (name : List ℕ) (c : Test) (left : ℕ) → value_at name conds ≡ Some c → is_among name under ≡ false → left_of under conds ≤ left → left_of (under ++ name ∷ []) conds + 1 ≤ left
 one_at_least under conds name c left is out enough = omega (arith, one_less name under conds c is out)
 
-pub descended : (s : Scope) (conds : List (List ℕ × Test)) (under : List (List ℕ)) (name : List ℕ) (c : Test) (l left : ℕ) (w : broken.Stop) → left ≡ suc l → value_at name conds ≡ Some c → is_one_of name under ≡ false
+pub descended : (s : Scope) (conds : List (List ℕ × Test)) (under : List (List ℕ)) (name : List ℕ) (c : Test) (l left : ℕ) (w : broken.Stop) → left ≡ suc l → value_at name conds ≡ Some c → is_among name under ≡ false
     → Stops (test_found (decided_by (condition_found l s conds (under ++ name ∷ [])) s) None c) w → (at : List ℕ) → Stops (condition_found left s conds under at name) w
 descended s conds under name c l left w e is out h at =
     subst (λ n. Stops (condition_found n s conds under at name) w) (sym e) (subst (λ o. Stops o w) (sym (declared s conds l under at name c out is)) h)

@@ -1,9 +1,9 @@
 -- What the conditions of a template come to (template reference, condition functions).
 use Rattle.std.specs.Prelude.{ℕ, zero, suc, Bool, not, List, [], ◌∷◌, ◌++◌, length, Option, Some, None, map, option_map, unwrap_or, if◌then◌else◌}
 use Rattle.std.specs.List.{list_all, list_any}
-use Rattle.std.specs.Str.{bytes_eq}
 use Rattle.cf_tree.specs.Datum.{Data, Items, text, whole, truth, list, dict, no_items, item}
 use Rattle.cf_tree.specs.Keys.{value_at}
+use Rattle.cf_tree.specs.Lists.{is_among}
 use Rattle.cf_tree.specs.Same.{same_data}
 use Rattle.cf_tree.specs.Tests.{Test, TestNode, Tests, cond, equals, negation, all_of, any_of, named, no_tests, test, place_of_test}
 use Rattle.cf_eval.specs.Outcome.{Outcome, got, later, bad, fault, on_got, both, each, or_wrong}
@@ -70,10 +70,6 @@ abbrev mutual
   tests_found s around no_tests = []
   tests_found s around (test c cs) = test_found s around c ∷ tests_found s around cs
 
--- whether a name is among others
-abbrev pub is_one_of : List ℕ → List (List ℕ) → Bool
-is_one_of name ns = list_any (λ n. bytes_eq n name) ns
-
 -- the same scope, with conditions decided by f
 abbrev pub decided_by : (List ℕ → List ℕ → Outcome Bool) → Scope → Scope
 decided_by f s = record s { decided = f }
@@ -81,9 +77,9 @@ decided_by f s = record s { decided = f }
 -- What a condition comes to, asked for at a place while those of `under` are being decided, in the order in which they were asked for: it
 -- needs itself where it is one of these. `left` is how many conditions there are beside them.
 abbrev pub condition_found : ℕ → Scope → List (List ℕ × Test) → List (List ℕ) → List ℕ → List ℕ → Outcome Bool
-condition_found zero s conds under at name = bad (fault (if is_one_of name under then CircularCondition else UnknownName) at)
+condition_found zero s conds under at name = bad (fault (if is_among name under then CircularCondition else UnknownName) at)
 condition_found (suc left) s conds under at name =
-    if is_one_of name under then bad (fault CircularCondition at)
+    if is_among name under then bad (fault CircularCondition at)
     else on_got (or_fault UnknownName at (value_at name conds))
     (test_found (decided_by (condition_found left s conds (under ++ name ∷ [])) s) None)
 

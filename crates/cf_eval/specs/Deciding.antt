@@ -2,23 +2,24 @@
 use Rattle.std.specs.Prelude.{◌≡◌, ℕ, suc, ◌≤◌, Bool, length, map, true, List, [], ◌∷◌, ◌++◌, Option, Some, None, IsSome, is_some, Result, Ok, Err, option_map, if◌then◌else◌}
 use Rattle.cf_eval.specs.declared.decide.Ground as over
 use Rattle.cf_tree.specs.Keys.{value_at}
+use Rattle.cf_tree.specs.Lists.{is_among}
 use Rattle.cf_tree.specs.Tests.{Test}
 use Rattle.cf_tree.specs.declared.bound.Verdict.{Verdict}
 use Rattle.cf_eval.specs.declared.fault.Stop as broken
 use Rattle.cf_eval.specs.Outcome.{Outcome, got, bad, undecided}
 use Rattle.cf_eval.specs.Scope.{Scope, closed_to}
 use Rattle.cf_eval.specs.ScopeOf.{among, setting_of, verdict_of}
-use Rattle.cf_eval.specs.Conditions.{test_found, condition_found, decided_by, is_one_of}
+use Rattle.cf_eval.specs.Conditions.{test_found, condition_found, decided_by}
 use Rattle.cf_eval.specs.Gives.{part_of, Stops}
 
 -- how many conditions are not under way
 abbrev pub left_of : List (List ℕ) → List (List ℕ × Test) → ℕ
 left_of under [] = 0
-left_of under (c ∷ cs) = if is_one_of c.0 under then left_of under cs else suc (left_of under cs)
+left_of under (c ∷ cs) = if is_among c.0 under then left_of under cs else suc (left_of under cs)
 
 -- none of those that are under way is decided
 abbrev pub Apart : List (List ℕ) → List (List ℕ × Verdict) → Type 0
-Apart under done = (m : List ℕ) → is_one_of m under ≡ true → value_at m done ≡ None
+Apart under done = (m : List ℕ) → is_among m under ≡ true → value_at m done ≡ None
 
 -- what is noted of a condition is what it comes to, whatever else is under way
 abbrev pub AreNotedRight : Scope → List (List ℕ × Test) → List (List ℕ × Verdict) → Type 0

@@ -1,7 +1,8 @@
 //! Conditions, each decided once.
 ghost use Rattle.std.specs.Prelude.{◌≡◌, ℕ, ◌≤◌, List, Some, None, false};
 ghost use Rattle.cf_tree.specs.Keys.{value_at};
-ghost use Rattle.cf_eval.specs.Conditions.{condition_found, decided_by, is_one_of, test_found};
+ghost use Rattle.cf_tree.specs.Lists.{is_among};
+ghost use Rattle.cf_eval.specs.Conditions.{condition_found, decided_by, test_found};
 ghost use Rattle.cf_eval.specs.Deciding.{Apart, AreNotedRight, Notes, DecidesAs, ground_of, left_of};
 ghost use Rattle.cf_eval.specs.Gives.{GivesVerdict, Stops};
 ghost use Rattle.cf_eval.specs.ScopeOf.{among};
@@ -89,7 +90,7 @@ fn enter(
     requires fresh { value_at name.now done.old ≡ None }
     ensures { Notes ground.now under.old.items under.new.items done.old done.new name.now (Stops (condition_found left (ground_of ground.now) ground.now.conds.now under.old.items at.now name.now)) result }
 {
-    if is_one_of(name, under.as_slice()) {
+    if is_among(name, under.as_slice()) {
         return Err(Stop::Bad {
             why: EvalWhy::CircularCondition,
             at: at.try_clone(alloc)?,
@@ -120,7 +121,7 @@ pub(crate) fn descend(
     requires enough { left_of under.old.items ground.now.conds.now ≤ left }
     requires fresh { value_at name.now done.old ≡ None }
     requires declared { value_at name.now ground.now.conds.now ≡ Some cond.now }
-    requires out { is_one_of name.now under.old.items ≡ false }
+    requires out { is_among name.now under.old.items ≡ false }
     ensures { Notes ground.now under.old.items under.new.items done.old done.new name.now (λ w. (at : List ℕ) → Stops (condition_found left (ground_of ground.now) ground.now.conds.now under.old.items at name.now) w) result }
 {
     let depth = under.len();
@@ -137,8 +138,8 @@ pub(crate) fn descend(
 }
 
 /// Whether a name is among others.
-fn is_one_of(name: &Txt, names: &[Txt]) -> bool
-    ensures { result ≡ is_one_of name.now names.now }
+fn is_among(name: &Txt, names: &[Txt]) -> bool
+    ensures { result ≡ is_among name.now names.now }
 {
-    names.iter().any(|other| name.is(other.as_str()))
+    names.iter().any(|other| other.is(name.as_str()))
 }

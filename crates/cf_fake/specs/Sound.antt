@@ -3,6 +3,7 @@
 use Rattle.std.specs.Prelude.{ℕ, ◌^◌, Bool, true, ◌&&◌, List, [], nat_le, nat_lt, IsTrue}
 use Rattle.std.specs.Str.{bytes_eq}
 use Rattle.std.specs.List.{list_all, list_any}
+use Rattle.cf_tree.specs.Limits.{most_attrs_bytes}
 use Rattle.cf_tree.specs.SizeOf.{size_of_dict}
 use Rattle.cf_handler.specs.Lane.{LaneState, Live, live_of}
 use Rattle.cf_handler.specs.declared.settled.Settlement.{Settlement}
@@ -19,7 +20,7 @@ abbrev pub is_known : List ℕ → List Settled → List ℕ → Bool
 is_known name settled id = list_any (is_made_by name id) settled
 
 abbrev pub is_sound : List ℕ → List Settled → Settlement → Bool
-is_sound name all (Success physical attrs) = is_known name all physical && nat_le (size_of_dict attrs) 524288
+is_sound name all (Success physical attrs) = is_known name all physical && nat_le (size_of_dict attrs) most_attrs_bytes
 is_sound name all (Failed code) = true
 
 abbrev pub are_sound : List ℕ → List Settled → List Settled → Bool

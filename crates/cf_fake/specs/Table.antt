@@ -7,6 +7,7 @@ use Rattle.std.specs.Str.{bytes_eq}
 use Rattle.std.specs.List.{list_all, list_any}
 use Rattle.cf_tree.specs.Datum.{Data, text, whole}
 use Rattle.cf_tree.specs.Keys.{put, value_at}
+use Rattle.cf_tree.specs.Lists.{is_among}
 use Rattle.cf_tree.specs.Same.{same_data}
 use Rattle.cf_tree.specs.SizeOf.{size_of_dict}
 use Rattle.cf_tree.specs.declared.request.Request.{Request}
@@ -22,9 +23,6 @@ use Rattle.cf_handler.specs.declared.settled.Settlement.TheVariants.{Success, Fa
 abbrev pub id_of : List ℕ → ℕ → List ℕ
 id_of name token = name ++ 58 ∷ decimal token
 
-abbrev pub is_one : List ℕ → List (List ℕ) → Bool
-is_one name names = list_any (λ n. bytes_eq n name) names
-
 -- Properties are valid where each is one of the schema's that may be set, and a text, all required ones are there, and they encode to
 -- 262,144 bytes at most.
 abbrev pub is_text : Data → Bool
@@ -32,7 +30,7 @@ is_text (text t) = true
 is_text _ = false
 
 abbrev pub is_settable : Schema → List ℕ × Data → Bool
-is_settable g p = is_one p.0 g.props && (not (is_one p.0 g.read_only) && is_text p.1)
+is_settable g p = is_among p.0 g.props && (not (is_among p.0 g.read_only) && is_text p.1)
 
 abbrev pub is_there : List (List ℕ × Data) → List ℕ → Bool
 is_there props name = is_some (value_at name props)

@@ -1,10 +1,11 @@
 //! The table of answers.
 ghost use Rattle.std.specs.Prelude.{◌≡◌, ◌+◌, ◌^◌, ◌-◌, ◌≤◌, ◌++◌, [], ◌∷◌, length, nat_le, IsTrue, IfOk, Some, None, option_map};
-ghost use Rattle.std.specs.List.{list_all, list_any};
+ghost use Rattle.std.specs.List.{list_all, list_any, slice_get};
 ghost use Rattle.cf_tree.specs.Value.{datum_of, pairs_of};
 ghost use Rattle.cf_tree.specs.Keys.{value_at};
+ghost use Rattle.cf_tree.specs.Lists.{is_among};
 ghost use Rattle.cf_tree.specs.SizeOf.{size_of_dict};
-ghost use Rattle.cf_fake.specs.Table.{id_of, is_one, is_text, is_settable, is_there, are_valid, agree, agree_at, are_same, is_sealed, breaks_seal, is_fixed, text_in, measured, attrs_of};
+ghost use Rattle.cf_fake.specs.Table.{id_of, is_text, is_settable, is_there, are_valid, agree, agree_at, are_same, is_sealed, breaks_seal, is_fixed, text_in, measured, attrs_of};
 ghost use Rattle.cf_schema.specs.Change.{any_differs, differs_at};
 
 use cf_schema::Schema;
@@ -25,10 +26,10 @@ pub fn id_of(alloc: Global, name: &str, token: u64) -> Result<Txt, AllocError>
     Ok(Txt::new(id))
 }
 
-fn is_one(name: &Txt, names: &Names) -> bool
-    ensures { result ≡ is_one name.now names.now }
+fn is_among(name: &Txt, names: &Names) -> bool
+    ensures { result ≡ is_among name.now names.now }
 {
-    names.as_slice().iter().any(|one| *one == *name)
+    names.as_slice().iter().any(|other| *name == *other)
 }
 
 fn is_text(value: &Val) -> bool
@@ -44,8 +45,8 @@ fn is_text(value: &Val) -> bool
 fn is_settable(schema: &Schema, pair: &Pair) -> bool
     ensures { result ≡ is_settable schema.now (pair.now.name, datum_of pair.now.value) }
 {
-    is_one(&pair.name, &schema.props)
-        && !is_one(&pair.name, &schema.read_only)
+    is_among(&pair.name, &schema.props)
+        && !is_among(&pair.name, &schema.read_only)
         && is_text(&pair.value)
 }
 
@@ -103,6 +104,26 @@ pub fn are_same(schema: &Schema, old: &Dict, new: &Dict) -> bool
 {
     all_agree(old, new, schema.create_only.as_slice())
         && all_agree(old, new, schema.conditional.as_slice())
+}
+
+/// Whether a resource has this value of a property, or none.
+fn agrees_with(old: &Dict, name: &Txt, value: &Val) -> bool
+    ensures { result ≡ agree (value_at name.now old.now) (Some (datum_of value.now)) }
+{
+    match old.get(name.as_str()) {
+        Some(other) => other == value,
+        None => true,
+    }
+}
+
+/// Whether two resources are the same one, by the value that the second has of the first create-only property.
+#[tactic(auto, using(crate::proofs::First::same_by_first))]
+pub fn is_same_by(schema: &Schema, old: &Dict, new: &Dict, name: &Txt, value: &Val) -> bool
+    requires first { slice_get schema.now.create_only 0 ≡ Some name.now }
+    requires value { value_at name.now new.now ≡ Some (datum_of value.now) }
+    ensures { result ≡ are_same schema.now old.now new.now }
+{
+    agrees_with(old, name, value) && are_same(schema, old, new)
 }
 
 fn differs_at(old: &Dict, new: &Dict, name: &Txt) -> bool

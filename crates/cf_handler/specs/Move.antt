@@ -3,6 +3,7 @@
 use Rattle.std.specs.Prelude.{◌≡◌, ℕ, ◌-◌, ◌^◌, ◌<◌, ◌≤◌, false, List, [], ◌∷◌, ◌++◌, length, Option, Some, None, IsTrue, ◌⊎◌}
 use Rattle.cf_tree.specs.Datum.{Data}
 use Rattle.cf_tree.specs.Counts.{HasRisen}
+use Rattle.cf_tree.specs.Limits.{most_id_bytes, most_attrs_bytes}
 use Rattle.cf_tree.specs.SizeOf.{size_of_dict}
 use Rattle.cf_tree.specs.declared.request.Request.{Request}
 use Rattle.cf_tree.specs.declared.request.Request.TheVariants.{Create, Update, Delete}
@@ -27,11 +28,11 @@ HasCause before after result = (before ≤ after) × RoseIfFailed result before 
 
 -- the attributes are within their limit
 abbrev pub AreShort : List (List ℕ × Data) → Type 0
-AreShort attrs = size_of_dict attrs ≤ 524288
+AreShort attrs = size_of_dict attrs ≤ most_attrs_bytes
 
 -- an answer's id and attributes are within their limits
 abbrev pub IsShort : Answer → Type 0
-IsShort (answer.Success physical attrs) = (length physical ≤ 1024) × AreShort attrs
+IsShort (answer.Success physical attrs) = (length physical ≤ most_id_bytes) × AreShort attrs
 IsShort (answer.Failed code) = Unit {0}
 IsShort answer.Fault = Unit {0}
 IsShort answer.NoMemory = Unit {0}
@@ -50,7 +51,7 @@ IsKindFor (Delete id) kind = Unit {0}
 -- a deletion has no attributes, and finds nothing only where nothing is live
 abbrev pub MaySettle : List ℕ → LaneState → Request → Settlement → Type 0
 MaySettle name lane (Create kind props) (Success id attrs) =
-    IsOfLane name id × (length id ≤ 1024) × (is_used id lane ≡ false) × AreShort attrs
+    IsOfLane name id × (length id ≤ most_id_bytes) × (is_used id lane ≡ false) × AreShort attrs
 MaySettle name lane (Update id props) (Success physical attrs) = (physical ≡ id) × IsTrue (has_id id (live_of lane)) × AreShort attrs
 MaySettle name lane (Delete id) (Success physical attrs) = (physical ≡ id) × IsTrue (has_id id (live_of lane)) × (attrs ≡ [])
 MaySettle name lane (Delete id) (Failed NotFound) = has_id id (live_of lane) ≡ false

@@ -204,7 +204,7 @@ module _ (schemas : List Schema) (name : List ℕ) (x : World) (out : List ℕ) 
               lane = start.1;
             })
 
-    new_chosen : (a : Option Start) (k : Option Keeping) → FirstStart a → FirstKeeping k → (n : Next)
+    pub new_chosen : (a : Option Start) (k : Option Keeping) → FirstStart a → FirstKeeping k → (n : Next)
         → either_new homes (x.token + 1) a k ≡ Some n → Chosen n
     new_chosen None None f g n e = none_is n e
     new_chosen None (Some k) f (i, t, least) n e =

@@ -22,5 +22,6 @@ pub mod Removing
 pub mod Repeating
 pub mod Restored
 pub mod Retaining
+pub mod RollingBack
 mod Same
 pub mod Tallying

@@ -179,7 +179,7 @@ cleaned unmaking.BackClean s r = (λ i. (i, refl), λ w. w.0)
 cleaned unmaking.Gone s r = (λ i. absurd (in_none i), λ w. absurd (true≢false (sym w.1)))
 
 module _ (schemas : List Schema) (name : List ℕ) (x : World) (s : StackState) where
-  intends : (u : Unmaking) → status_in u ≡ s.status → (path : List ℕ) (r : Request) → IntendsIn (stage_in u) schemas name x s path r
+  pub intends : (u : Unmaking) → status_in u ≡ s.status → (path : List ℕ) (r : Request) → IntendsIn (stage_in u) schemas name x s path r
       → IntendsDeletion (stage_in u) s path r
   intends unmaking.Clean e path r i = i
   intends unmaking.BackClean e path r i = i
@@ -444,7 +444,7 @@ not_restoring unmaking.BackClean e = cc
 not_restoring unmaking.Gone e = cc
 
 module _ (u : Unmaking) (out : List ℕ) (s : StackState) (status_is : status_in u ≡ s.status) where
-  no_turn : (schemas : List Schema) (name : List ℕ) (x : World) (p : Phase) (c : Option Cause) → MayTurn schemas name x s p c → ⊥
+  pub no_turn : (schemas : List Schema) (name : List ℕ) (x : World) (p : Phase) (c : Option Cause) → MayTurn schemas name x s p c → ⊥
   no_turn schemas name x phase.Clean None w = not_updating u (status_is ∙ w.0)
   no_turn schemas name x phase.Clean (Some c) w = w
   no_turn schemas name x phase.Back None w = w

@@ -10,6 +10,7 @@ pub mod Offer
 pub mod Removals
 pub mod Repeats
 pub mod Restoring
+pub mod Rollback
 pub mod Taking
 pub mod Tallies
 pub mod Unmaking

@@ -12,6 +12,7 @@ ghost use Rattle.cf_next.specs.Taking.{Chooses, IsLastOn};
 use crate::first::first_begun;
 use crate::home::{Homes, leases_of, schemas_of};
 use crate::offer::Offer;
+use crate::rollback::next_deletion;
 use crate::stage::{last_of, look_ahead, offer_of, overview_in};
 use crate::step::Next;
 use cf_plan::{Overview, none_in_flight};
@@ -145,6 +146,9 @@ fn next_on(
 ) -> Result<Next, NextFault>
     ensures { Chooses schemas.now name.now world.now.world out.now stack.now.stack result }
 {
+    if let Some(deletion) = next_deletion(alloc, out, world, stack)? {
+        return Ok(deletion);
+    }
     let overview = overview_in(alloc, schemas, stack)?;
     let next = next_over(alloc, schemas, name, world, stack, out, &overview);
     drop(overview);

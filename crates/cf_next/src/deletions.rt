@@ -27,7 +27,12 @@ struct Removals<'a> {
 }
 
 /// Whether a stage waits for its repeats: one is out, or may come. A cleanup never does.
-fn waits(stage: Unmaking, stack: &StackState, out: &[u64], repeats: &Listing<Pending>) -> bool
+pub(crate) fn waits(
+    stage: Unmaking,
+    stack: &StackState,
+    out: &[u64],
+    repeats: &Listing<Pending>,
+) -> bool
     requires { AreRepeatsBut (retained_in (stage_in stage) stack.now.stack) out.now stack.now.stack repeats.now }
     ensures { result ≡ waits_for_repeats (stage_in stage) out.now stack.now.stack }
 {

@@ -20,7 +20,7 @@ use std::marker::Model;
 
 /// A lane at home: its name and its resource type.
 #[derive(Drop)]
-struct LaneHome<'a> {
+pub(crate) struct LaneHome<'a> {
     lane: &'a (Txt, Txt),
 }
 
@@ -66,7 +66,7 @@ fn add_homes<'a>(
 }
 
 /// The lanes of the last opening that are at home.
-fn homes_now<'a>(
+pub(crate) fn homes_now<'a>(
     alloc: Global,
     out: &[u64],
     world: &'a World,
@@ -187,7 +187,10 @@ fn better_start<'o, 'a>(
 }
 
 /// The first of these new calls that a lane at home fits.
-fn first_start<'o, 'a>(homes: &[LaneHome], starts: &'o [Start<'a>]) -> Option<&'o Start<'a>>
+pub(crate) fn first_start<'o, 'a>(
+    homes: &[LaneHome],
+    starts: &'o [Start<'a>],
+) -> Option<&'o Start<'a>>
     ensures { option_copied result ≡ first_start homes.now starts.now }
 {
     let mut first = None;
@@ -297,7 +300,7 @@ fn call_in(
 }
 
 /// A new call under the next token. Where no token is left, this is an error too.
-fn new_call(
+pub(crate) fn new_call(
     alloc: Global,
     homes: &[LaneHome],
     world: &World,

@@ -18,6 +18,7 @@ mod removals;
 mod repeats;
 mod restoring;
 mod retained;
+mod rollback;
 mod stage;
 mod step;
 mod tallies;

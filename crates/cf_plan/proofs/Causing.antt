@@ -210,9 +210,9 @@ module _ (schemas : List Schema) (name : List ℕ) (x : World) (s : StackState) 
 
   by_path : (o : Option (List ℕ × Flaw)) → least flaws ≡ o → first_failing schemas s ≡ None → IsFailureOf schemas name x s (or_path o (if are_all_done terms done then end_failure name x (plan_now s) else Nothing))
   by_path (Some a) k f =
-      let bad = to_bad a (least_in flaws a k) in
-      (inr (inl (a.0, a.1, bad)), (a.1, refl, f, inl (a.0, bad, λ q other b. least_low flaws a k (q, other) (from_bad q other b))))
-  by_path None k f = by_all (are_all_done terms done) refl f (λ q other b. least_none flaws k (q, other) (from_bad q other b))
+      let bad = to_bad a (least_in (λ b. b.0) flaws a k) in
+      (inr (inl (a.0, a.1, bad)), (a.1, refl, f, inl (a.0, bad, λ q other b. least_low (λ b. b.0) flaws a k (q, other) (from_bad q other b))))
+  by_path None k f = by_all (are_all_done terms done) refl f (λ q other b. least_none (λ b. b.0) flaws k (q, other) (from_bad q other b))
 
   pub tells : (o : Option (ℕ × Reason)) → first_failing schemas s ≡ o → IsFailureOf schemas name x s (or_call o s (plan_failure name x terms (plan_now s) done))
   tells (Some a) f = call_failed schemas name x s a (path_of_token a.0 s) f refl

@@ -1,5 +1,5 @@
 -- Lists in which the first that passes a test is changed, or each is, or one more stands at the end.
-use Rattle.std.proofs.Common.{ℕ, ◌≡◌, ◌⊎◌, inl, inr, List, ◌∷◌, ◌++◌, Bool, true, false, ◌&&◌, Option, Some, None, refl, sym, ap, subst, ◌∙◌, true≢false, find, filter, option_map, map, [], arith}
+use Rattle.std.proofs.Common.{◌≡◌, ◌⊎◌, inl, inr, List, ◌∷◌, ◌++◌, Bool, true, false, ◌&&◌, Option, Some, None, refl, sym, ap, subst, ◌∙◌, true≢false, find, filter, option_map, map, [], arith}
 use Rattle.cf_tree.specs.Lists.{there}
 use Rattle.cf_tree.specs.Lists.{here}
 use Rattle.cf_tree.specs.Lists.{In}
@@ -9,14 +9,11 @@ use Rattle.std.specs.List.{list_any}
 use Rattle.std.specs.Option.{option_or}
 use Rattle.std.proofs.lemmas.Bool.{cond_both}
 use Rattle.std.proofs.lemmas.List.Folds.{find-append, list_any-append}
-use Rattle.cf_plan.proofs.CreatedStays.{found_one}
 use Rattle.cf_plan.proofs.CreatedEnd.{in_changed as from_map}
 use Rattle.cf_plan.proofs.Listed.{in_cons}
 use Rattle.std.specs.Prelude.{◌||◌, cond, fold, ◌↔◌}
-
--- of two, whichever it is
-pub either_way : {A : Type 0} (P : A → Type 0) (b : Bool) (x y : A) → P x → P y → P (cond b x y)
-either_way P b x y p q = cond_both b x y P (λ e. p) (λ e. q)
+pub use Rattle.cf_rests.proofs.OfLists.{either_way}
+use Rattle.cf_rests.proofs.OfLists.{found_one}
 
 -- an option that is no value is none
 pub none_if : {A : Type 0} (o : Option A) → ((a : A) → o ≡ Some a → ⊥) → o ≡ None

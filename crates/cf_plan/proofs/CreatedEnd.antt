@@ -1,26 +1,25 @@
 -- Where a create ends as complete, the stack holds its template's evaluation.
 use Rattle.std.proofs.Common.{◌≡◌, ℕ, List, [], ◌∷◌, ◌++◌, Bool, true, false, not, ◌&&◌, Option, Some, None, refl, sym, ap, subst, ◌∙◌, map, filter, find, option_map, inl, inr}
-use Rattle.std.specs.Prelude.{cond, unwrap_or, fold, is_some}
+use Rattle.std.specs.Prelude.{cond, unwrap_or}
 use Rattle.std.specs.Option.{option_or}
 use Rattle.std.specs.Str.{bytes_eq}
 use Rattle.std.specs.Cmp.{first_so, second_so}
 use Rattle.std.proofs.lemmas.Slice.Eq.{bytes_eq-Decides}
 use Rattle.std.proofs.lemmas.List.{map-id, append-nil}
-use Rattle.cf_tree.specs.Datum.{Data}
-use Rattle.cf_tree.specs.Keys.{value_at, put}
+use Rattle.cf_tree.specs.Keys.{put}
 use Rattle.cf_tree.specs.declared.request.Request.{Request}
 use Rattle.cf_tree.specs.declared.request.Request.TheVariants as request
 use Rattle.cf_tree.specs.declared.source.Source.{Source}
 use Rattle.cf_tree.specs.Lists.{first_in}
 use Rattle.cf_entry.specs.declared.status.Status.TheVariants as status
 use Rattle.cf_desired.specs.declared.flaw.Flaw.{Flaw}
-use Rattle.cf_desired.specs.Seeing.{Seen}
+use Rattle.cf_desired.specs.Seeing.{by_names}
 use Rattle.cf_desired.specs.Whole.{Right, Whole, is_wanted_at, wanted_at, whole_of}
 use Rattle.cf_effect.specs.declared.held.Held.{Held}
 use Rattle.cf_effect.specs.declared.held.Pending.{Pending}
 use Rattle.cf_effect.specs.World.{StackState, World}
 use Rattle.cf_effect.specs.Words.{current_at, is_current_at}
-use Rattle.cf_effect.specs.Begin.{put_seen, seen_in}
+use Rattle.cf_effect.specs.Begin.{seen_in, shown_under}
 use Rattle.cf_effect.specs.End.{seen_now, is_physical_of, is_right_at, as_wanted, settled_in, completing, whole_over, empty_whole, ended_effect}
 use Rattle.cf_schema.specs.declared.described.Schema.{Schema}
 use Rattle.cf_plan.specs.Follow.{EndsAs}
@@ -62,10 +61,6 @@ pub none_first : (fs : List Flaw) → ((f : Flaw) → first_in fs ≡ Some f →
 none_first [] h = refl
 none_first (f ∷ fs) h = absurd (h f refl)
 
--- a resource that is put among what is seen, by what is shown of it
-abbrev put_as : List ℕ → List ℕ → List (List ℕ × Data) → Seen → Seen
-put_as path physical attrs seen = cond (is_some (value_at path seen)) seen (put path (record { physical = Some physical; attrs = Some attrs }) seen)
-
 module _ (f : Held → Held) where
   -- a change that leaves what is shown of a resource
   pub record Shows (h : Held) : Type 0 where
@@ -74,32 +69,21 @@ module _ (f : Held → Held) where
     pub attrs : (f h).attrs ≡ h.attrs
     pub stands : (f h).superseded ≡ h.superseded
 
-  put_same : (seen : Seen) (h : Held) → Shows h → put_seen seen (f h) ≡ put_seen seen h
-  put_same seen h s =
-      ap (λ p. put_as p (f h).physical (f h).attrs seen) s.path ∙ ap (λ p. put_as h.path p (f h).attrs seen) s.physical ∙ ap (λ a. put_as h.path h.physical a seen) s.attrs
+  same_shown : (h : Held) → Shows h → shown_under (f h) ≡ shown_under h
+  same_shown h s = λ i. (s.path i, record { physical = Some (s.physical i); attrs = Some (s.attrs i) })
 
-  shown_first :
-      (h : Held) (hs : List Held) (seen : Seen) → Shows h
-      → ((more : Seen) → fold put_seen more (filter (λ x. not x.superseded) (map f hs)) ≡ fold put_seen more (filter (λ x. not x.superseded) hs))
-      → fold put_seen seen (filter (λ x. not x.superseded) (map f (h ∷ hs))) ≡ fold put_seen seen (filter (λ x. not x.superseded) (h ∷ hs))
-  shown_first h hs seen s ih =
-      ap (λ b. fold put_seen seen (cond (not b) (f h ∷ filter (λ x. not x.superseded) (map f hs)) (filter (λ x. not x.superseded) (map f hs)))) s.stands
-      ∙ by_test h.superseded where
-        by_test :
-            (b : Bool) → fold put_seen seen (cond (not b) (f h ∷ filter (λ x. not x.superseded) (map f hs)) (filter (λ x. not x.superseded) (map f hs)))
-            ≡ fold put_seen seen (cond (not b) (h ∷ filter (λ x. not x.superseded) hs) (filter (λ x. not x.superseded) hs))
-        by_test true = ih seen
-        by_test false = ih (put_seen seen (f h)) ∙ ap (λ m. fold put_seen m (filter (λ x. not x.superseded) hs)) (put_same seen h s)
-
-  shown_behind :
-      (hs : List Held) → ((h : Held) → In h hs → Shows h) → (seen : Seen)
-      → fold put_seen seen (filter (λ x. not x.superseded) (map f hs)) ≡ fold put_seen seen (filter (λ x. not x.superseded) hs)
-  shown_behind [] s seen = refl
-  shown_behind (h ∷ hs) s seen = shown_first h hs seen (s h here) (shown_behind hs (λ x i. s x (there i)))
+  named_if :
+      (b : Bool) (h : Held) (hs more : List Held) → Shows h → by_names (map shown_under hs) ≡ by_names (map shown_under more)
+      → by_names (map shown_under (cond b (f h ∷ hs) hs)) ≡ by_names (map shown_under (cond b (h ∷ more) more))
+  named_if true h hs more s e = λ i. put (same_shown h s i).0 (same_shown h s i).1 (e i)
+  named_if false h hs more s e = e
 
   -- what is shown of all is as it was
   all_shown : (hs : List Held) → ((h : Held) → In h hs → Shows h) → seen_in (map f hs) ≡ seen_in hs
-  all_shown hs s = shown_behind hs s []
+  all_shown [] s = refl
+  all_shown (h ∷ hs) s =
+      ap (λ b. by_names (map shown_under (cond (not b) (f h ∷ filter (λ x. not x.superseded) (map f hs)) (filter (λ x. not x.superseded) (map f hs))))) (s h here).stands
+      ∙ named_if (not h.superseded) h (filter (λ x. not x.superseded) (map f hs)) (filter (λ x. not x.superseded) hs) (s h here) (all_shown hs (λ x i. s x (there i)))
 
   found_with : (b : Bool) (h : Held) (o p : Option Held) → o ≡ option_map f p → cond b (Some (f h)) o ≡ option_map f (cond b (Some h) p)
   found_with true h o p e = refl

@@ -25,6 +25,7 @@ use Rattle.cf_tree.specs.Lists.{here}
 use Rattle.cf_tree.specs.Lists.{In}
 use Rattle.cf_plan.specs.Created.{HasOneShape, IsCreating}
 use Rattle.cf_plan.proofs.OneShape.{known_stays, plan_same, terms_same}
+pub use Rattle.cf_rests.proofs.OfLists.{in_more, found_one}
 
 -- what a plan says of a path
 abbrev pub found_in : Option Wanted → Finding
@@ -90,13 +91,6 @@ said_now source s c path =
     ∙ ap (λ hs. found_in (wanted_at path (plan_by source (shape_of source (seen_in s.before)) (seen_in hs)))) (append-nil s.made)
     ∙ ap (λ (p : Plan). found_in (wanted_at path p)) (plan_same source c.one_shape (seen_in s.before) (seen_in s.made))
 
--- one of a list with one more at its end
-pub in_more : {A : Type 0} (P : A → Type 0) (x : A) (xs : List A) → ((a : A) → In a xs → P a) → P x → (a : A) → In a (xs ++ x ∷ []) → P a
-in_more P x [] h p a here = p
-in_more P x [] h p a (there i) = elim i [ ]
-in_more P x (y ∷ xs) h p a here = h y here
-in_more P x (y ∷ xs) h p a (there i) = in_more P x xs (λ b j. h b (there j)) p a i
-
 passed_over : {A : Type 0} (b : Bool) (y : A) (o p : Option A) (x : A) → (o ≡ None → p ≡ Some x) → cond b (Some y) o ≡ None → cond b (Some y) p ≡ Some x
 passed_over true y o p x h m = let no : ⊥ = cc in absurd no
 passed_over false y o p x h m = h m
@@ -112,11 +106,3 @@ still_with false y o p x h m = h m
 pub found_still : {A : Type 0} (test : A → Bool) (xs ys : List A) (x : A) → find test xs ≡ Some x → find test (xs ++ ys) ≡ Some x
 found_still test [] ys x h = let no : ⊥ = cc in absurd no
 found_still test (y ∷ xs) ys x h = still_with (test y) y (find test xs) (find test (xs ++ ys)) x (found_still test xs ys x) h
-
--- what is found is of the list, and passes
-pub found_one : {A : Type 0} (test : A → Bool) (xs : List A) (x : A) → find test xs ≡ Some x → In x xs × (test x ≡ true)
-found_one test [] x h = let no : ⊥ = cc in absurd no
-found_one test (y ∷ xs) x h = either (test y) refl h (found_one test xs x) where
-  either : (b : Bool) → test y ≡ b → cond b (Some y) (find test xs) ≡ Some x → (find test xs ≡ Some x → In x xs × (test x ≡ true)) → In x (y ∷ xs) × (test x ≡ true)
-  either true e g ih = let same : y ≡ x = cc in subst (λ z. In z (y ∷ xs) × (test z ≡ true)) same (here, e)
-  either false e g ih = let i = ih g in (there i.0, i.1)

@@ -1,4 +1,4 @@
--- The first in byte order of what is found.
+-- The first of a list in byte order, by the text that each goes by.
 use Rattle.std.proofs.Common.{◌≡◌, ◌⊎◌, inl, inr, ℕ, suc, ◌+◌, ◌<◌, Bool, true, false, List, [], ◌∷◌, Option, Some, None, option_map, length, take, get_or, refl, ap, sym, ◌∙◌, subst, arith, if◌then◌else◌, true≢false}
 use Rattle.std.specs.Prelude.{filter_map, fold}
 use Rattle.std.specs.Option.{option_to_list}
@@ -10,33 +10,13 @@ use Rattle.std.specs.declared.cmp.Ordering.TheVariants.{Less, Equal, Greater}
 use Rattle.std.specs.Cmp.Lexicographic.{slice_cmp, nat_list_cmp_total, texts_ties}
 use Rattle.std.proofs.lemmas.Bool.{false_from_ne_true}
 use Rattle.cf_tree.specs.Keys.{bytes_lt}
+use Rattle.cf_tree.specs.Lists.{In, here, least_by, there}
 use Rattle.cf_desired.specs.declared.flaw.Flaw.{Flaw}
 use Rattle.cf_desired.specs.declared.wanted.Plan.{Plan}
 use Rattle.cf_desired.specs.declared.wanted.Wanted.{Wanted}
 use Rattle.cf_plan.specs.Done.{are_met}
-use Rattle.cf_plan.specs.Failed.{flaw_planned, flaw_found, least, lesser_flaw, lesser_of}
-use Rattle.cf_tree.specs.Lists.{there}
-use Rattle.cf_tree.specs.Lists.{here}
-use Rattle.cf_tree.specs.Lists.{In}
+use Rattle.cf_plan.specs.Failed.{flaw_planned, flaw_found}
 use Rattle.cf_plan.proofs.Listed.{bytes_same, in_cons, in_none, mapped_more}
-
-abbrev B : Type 0
-B = List ℕ × Flaw
-
-one_folded : (m : Option B) (o : Option B) → fold lesser_flaw m (option_to_list o) ≡ lesser_of m o
-one_folded m None = refl
-one_folded m (Some b) = refl
-
--- one more is folded in
-pub folded_more :
-    {A : Type 0} (f : A → Option B) (xs : List A) (i : ℕ) (d : A) (a mid o new : Option B) → i < length xs → d ≡ get_or xs i d →
-    mid ≡ fold lesser_flaw a (filter_map f (take i xs)) → o ≡ f d → new ≡ lesser_of mid o → new ≡ fold lesser_flaw a (filter_map f (take (i + 1) xs))
-folded_more f xs i d a mid o new l at was is now =
-    let next : suc i ≡ i + 1 = omega arith in
-    now ∙ ap (λ m. lesser_of m o) was ∙ sym (one_folded (fold lesser_flaw a (filter_map f (take i xs))) o)
-    ∙ ap (λ x. fold lesser_flaw (fold lesser_flaw a (filter_map f (take i xs))) (option_to_list x)) (is ∙ ap f at)
-    ∙ sym (fold-append lesser_flaw a (filter_map f (take i xs)) (option_to_list (f (get_or xs i d))))
-    ∙ ap (fold lesser_flaw a) (sym (mapped_more f xs i d l)) ∙ ap (λ k. fold lesser_flaw a (filter_map f (take k xs))) next
 
 less_from : (o : Ordering) → is_lt o ≡ true → o ≡ Less
 less_from Less h = refl
@@ -45,17 +25,6 @@ less_from Greater h = absurd (true≢false (sym h))
 
 lt_trans : (a b c : List ℕ) → bytes_lt a b ≡ true → bytes_lt b c ≡ true → bytes_lt a c ≡ true
 lt_trans a b c h g = ap is_lt (nat_list_cmp_total.trans a b c (less_from _ h) (less_from _ g))
-
-fold_by : (c x : B) (xs : List B) (a : B) (b : Bool) → bytes_lt x.0 c.0 ≡ b → (lesser_flaw (Some c) x ≡ Some a) ⊎ In a xs → (Some c ≡ Some a) ⊎ In a (x ∷ xs)
-fold_by c x xs a b k (inr i) = inr (there i)
-fold_by c x xs a true k (inl f) = let one : lesser_flaw (Some c) x ≡ Some x = rw k refl in inr (subst (λ z. In a (z ∷ xs)) (sym (same_Some x a (sym one ∙ f))) here)
-fold_by c x xs a false k (inl f) = let one : lesser_flaw (Some c) x ≡ Some c = rw k refl in inl (sym one ∙ f)
-
--- what the fold gives is where it began, or one of the list
-from_fold : (o : Option B) (xs : List B) (a : B) → fold lesser_flaw o xs ≡ Some a → (o ≡ Some a) ⊎ In a xs
-from_fold o [] a e = inl e
-from_fold None (x ∷ xs) a e = elim (from_fold (Some x) xs a e) [ inl k ↦ inr (subst (λ c. In a (c ∷ xs)) (sym (same_Some x a k)) here) | inr k ↦ inr (there k) ]
-from_fold (Some c) (x ∷ xs) a e = fold_by c x xs a (bytes_lt x.0 c.0) refl (from_fold (lesser_flaw (Some c) x) xs a e)
 
 not_itself : (a : List ℕ) → bytes_lt a a ≡ false
 not_itself a = by_order (slice_cmp nat_cmp a a) (nat_list_cmp_total.antisymm a a)
@@ -80,40 +49,80 @@ below x c a h g = false_from_ne_true (bytes_lt x a) (λ t. elim (behind c a g) [
   | inr k ↦ true≢false (sym (subst (λ z. bytes_lt x z ≡ true) (sym k) t) ∙ h)
 ])
 
-two_low : (c x a : B) (b : Bool) → bytes_lt x.0 c.0 ≡ b → ((d : B) → (if b then Some x else Some c) ≡ Some d → bytes_lt d.0 a.0 ≡ false) → (bytes_lt c.0 a.0 ≡ false) × (bytes_lt x.0 a.0 ≡ false)
-two_low c x a true k h = let xa = h x refl in (false_from_ne_true (bytes_lt c.0 a.0) (λ t. true≢false (sym (lt_trans x.0 c.0 a.0 k t) ∙ xa)), xa)
-two_low c x a false k h = let ca = h c refl in (ca, below x.0 c.0 a.0 k ca)
+module _ {A : Type 0} (text : A → List ℕ) where
+  abbrev lesser : Option A → A → Option A
+  lesser = least_by text
 
-low : (xs : List B) (o : Option B) (a : B) → fold lesser_flaw o xs ≡ Some a → ((c : B) → o ≡ Some c → bytes_lt c.0 a.0 ≡ false) × ((b : B) → In b xs → bytes_lt b.0 a.0 ≡ false)
-low [] o a e = (λ c f. subst (λ (z : B). bytes_lt z.0 a.0 ≡ false) (sym (same_Some c a (sym f ∙ e))) (not_itself a.0), λ b i. absurd (in_none i))
-low (x ∷ xs) None a e =
-    let h = low xs (Some x) a e in
-    (λ c f. absurd (none-some c f), λ b i. elim (in_cons i) [ inl k ↦ subst (λ (z : B). bytes_lt z.0 a.0 ≡ false) k (h.0 x refl) | inr j ↦ h.1 b j ])
-low (x ∷ xs) (Some c) a e =
-    let h = low xs (lesser_flaw (Some c) x) a e in
-    let p = two_low c x a (bytes_lt x.0 c.0) refl h.0 in (
-      λ d f. subst (λ (z : B). bytes_lt z.0 a.0 ≡ false) (same_Some c d f) p.0,
-      λ b i. elim (in_cons i) [ inl k ↦ subst (λ (z : B). bytes_lt z.0 a.0 ≡ false) k p.1 | inr j ↦ h.1 b j ],
-    )
+  -- one more is folded in
+  pub folded_more :
+      {X : Type 0} (f : X → Option A) (xs : List X) (i : ℕ) (d : X) (a mid o new : Option A) → i < length xs → d ≡ get_or xs i d
+      → mid ≡ fold lesser a (filter_map f (take i xs)) → o ≡ f d → new ≡ fold lesser mid (option_to_list o)
+      → new ≡ fold lesser a (filter_map f (take (i + 1) xs))
+  folded_more f xs i d a mid o new l at was is now =
+      let next : suc i ≡ i + 1 = omega arith in
+      now ∙ ap (λ m. fold lesser m (option_to_list o)) was
+      ∙ ap (λ x. fold lesser (fold lesser a (filter_map f (take i xs))) (option_to_list x)) (is ∙ ap f at)
+      ∙ sym (fold-append lesser a (filter_map f (take i xs)) (option_to_list (f (get_or xs i d))))
+      ∙ ap (fold lesser a) (sym (mapped_more f xs i d l)) ∙ ap (λ k. fold lesser a (filter_map f (take k xs))) next
 
-keep_by : (x c : B) (xs : List B) (b : Bool) → bytes_lt x.0 c.0 ≡ b → ((d : B) → fold lesser_flaw (Some d) xs ≡ None → ⊥) → fold lesser_flaw (Some c) (x ∷ xs) ≡ None → ⊥
-keep_by x c xs true k h e = let one : lesser_flaw (Some c) x ≡ Some x = rw k refl in h x (ap (λ o. fold lesser_flaw o xs) (sym one) ∙ e)
-keep_by x c xs false k h e = let one : lesser_flaw (Some c) x ≡ Some c = rw k refl in h c (ap (λ o. fold lesser_flaw o xs) (sym one) ∙ e)
+  fold_by : (c x : A) (xs : List A) (a : A) (b : Bool) → bytes_lt (text x) (text c) ≡ b → (lesser (Some c) x ≡ Some a) ⊎ In a xs → (Some c ≡ Some a) ⊎ In a (x ∷ xs)
+  fold_by c x xs a b k (inr i) = inr (there i)
+  fold_by c x xs a true k (inl f) = let one : lesser (Some c) x ≡ Some x = rw k refl in inr (subst (λ z. In a (z ∷ xs)) (sym (same_Some x a (sym one ∙ f))) here)
+  fold_by c x xs a false k (inl f) = let one : lesser (Some c) x ≡ Some c = rw k refl in inl (sym one ∙ f)
 
-keeps : (xs : List B) (c : B) → fold lesser_flaw (Some c) xs ≡ None → ⊥
-keeps [] c e = none-some c (sym e)
-keeps (x ∷ xs) c e = keep_by x c xs (bytes_lt x.0 c.0) refl (keeps xs) e
+  -- what the fold gives is where it began, or one of the list
+  from_fold : (o : Option A) (xs : List A) (a : A) → fold lesser o xs ≡ Some a → (o ≡ Some a) ⊎ In a xs
+  from_fold o [] a e = inl e
+  from_fold None (x ∷ xs) a e = elim (from_fold (Some x) xs a e) [ inl k ↦ inr (subst (λ c. In a (c ∷ xs)) (sym (same_Some x a k)) here) | inr k ↦ inr (there k) ]
+  from_fold (Some c) (x ∷ xs) a e = fold_by c x xs a (bytes_lt (text x) (text c)) refl (from_fold (lesser (Some c) x) xs a e)
 
--- the least is one of them, and none is below it; where there is no least, there is none
-pub least_in : (xs : List B) (a : B) → least xs ≡ Some a → In a xs
-least_in xs a e = elim (from_fold None xs a e) [ inl k ↦ absurd (none-some a k) | inr i ↦ i ]
+  two_low : (c x a : A) (b : Bool) → bytes_lt (text x) (text c) ≡ b → ((d : A) → (if b then Some x else Some c) ≡ Some d → bytes_lt (text d) (text a) ≡ false)
+      → (bytes_lt (text c) (text a) ≡ false) × (bytes_lt (text x) (text a) ≡ false)
+  two_low c x a true k h =
+      let xa = h x refl in (false_from_ne_true (bytes_lt (text c) (text a)) (λ t. true≢false (sym (lt_trans (text x) (text c) (text a) k t) ∙ xa)), xa)
+  two_low c x a false k h = let ca = h c refl in (ca, below (text x) (text c) (text a) k ca)
 
-pub least_low : (xs : List B) (a : B) → least xs ≡ Some a → (b : B) → In b xs → bytes_lt b.0 a.0 ≡ false
-least_low xs a e = (low xs None a e).1
+  low : (xs : List A) (o : Option A) (a : A) → fold lesser o xs ≡ Some a
+      → ((c : A) → o ≡ Some c → bytes_lt (text c) (text a) ≡ false) × ((b : A) → In b xs → bytes_lt (text b) (text a) ≡ false)
+  low [] o a e = (λ c f. subst (λ (z : A). bytes_lt (text z) (text a) ≡ false) (sym (same_Some c a (sym f ∙ e))) (not_itself (text a)), λ b i. absurd (in_none i))
+  low (x ∷ xs) None a e =
+      let h = low xs (Some x) a e in
+      (λ c f. absurd (none-some c f), λ b i. elim (in_cons i) [ inl k ↦ subst (λ (z : A). bytes_lt (text z) (text a) ≡ false) k (h.0 x refl) | inr j ↦ h.1 b j ])
+  low (x ∷ xs) (Some c) a e =
+      let h = low xs (lesser (Some c) x) a e in
+      let p = two_low c x a (bytes_lt (text x) (text c)) refl h.0 in (
+        λ d f. subst (λ (z : A). bytes_lt (text z) (text a) ≡ false) (same_Some c d f) p.0,
+        λ b i. elim (in_cons i) [ inl k ↦ subst (λ (z : A). bytes_lt (text z) (text a) ≡ false) k p.1 | inr j ↦ h.1 b j ],
+      )
 
-pub least_none : (xs : List B) → least xs ≡ None → (b : B) → In b xs → ⊥
-least_none [] e b i = in_none i
-least_none (x ∷ xs) e b i = keeps xs x e
+  pub lesser_some : (o : Option A) (a : A) → lesser o a ≡ None → ⊥
+  lesser_some None a e = none-some a (sym e)
+  lesser_some (Some c) a e = by (bytes_lt (text a) (text c)) e where
+    by : (b : Bool) → (if b then Some a else Some c) ≡ None → ⊥
+    by true k = none-some a (sym k)
+    by false k = none-some c (sym k)
+
+  keep_by : (x c : A) (xs : List A) (b : Bool) → bytes_lt (text x) (text c) ≡ b → ((d : A) → fold lesser (Some d) xs ≡ None → ⊥) → fold lesser (Some c) (x ∷ xs) ≡ None → ⊥
+  keep_by x c xs true k h e = let one : lesser (Some c) x ≡ Some x = rw k refl in h x (ap (λ o. fold lesser o xs) (sym one) ∙ e)
+  keep_by x c xs false k h e = let one : lesser (Some c) x ≡ Some c = rw k refl in h c (ap (λ o. fold lesser o xs) (sym one) ∙ e)
+
+  keeps : (xs : List A) (c : A) → fold lesser (Some c) xs ≡ None → ⊥
+  keeps [] c e = none-some c (sym e)
+  keeps (x ∷ xs) c e = keep_by x c xs (bytes_lt (text x) (text c)) refl (keeps xs) e
+
+  -- the least is one of them, and none is below it; where there is no least, there is none
+  pub least_in : (xs : List A) (a : A) → fold lesser None xs ≡ Some a → In a xs
+  least_in xs a e = elim (from_fold None xs a e) [ inl k ↦ absurd (none-some a k) | inr i ↦ i ]
+
+  pub least_low : (xs : List A) (a : A) → fold lesser None xs ≡ Some a → (b : A) → In b xs → bytes_lt (text b) (text a) ≡ false
+  least_low xs a e = (low xs None a e).1
+
+  pub none_least : (xs : List A) → fold lesser None xs ≡ None → xs ≡ []
+  none_least [] e = refl
+  none_least (x ∷ xs) e = absurd (keeps xs x e)
+
+  pub least_none : (xs : List A) → fold lesser None xs ≡ None → (b : A) → In b xs → ⊥
+  least_none xs e b i = absurd (in_none (subst (In b) (none_least xs e) i))
 
 -- of a path without a flaw none is found, whatever it needs
 pub none_found : (before now : Plan) (done : List (List ℕ)) (w : Wanted) → flaw_planned w.path now ≡ None → flaw_found before now done w ≡ None

@@ -7,6 +7,7 @@ use Rattle.std.proofs.lemmas.List.Folds.{list_any-append}
 use Rattle.cf_tree.specs.Lists.{there}
 use Rattle.cf_tree.specs.Lists.{here}
 use Rattle.cf_tree.specs.Lists.{In}
+pub use Rattle.cf_rests.proofs.OfLists.{in_first}
 
 pub false_from : (b : Bool) → (b ≡ true → ⊥) → b ≡ false
 false_from true n = absurd (n refl)
@@ -24,11 +25,6 @@ not_both b t f = true≢false (sym t ∙ f)
 
 pub in_none : {A : Type 0} {a : A} → In a [] → ⊥
 in_none i = elim i [ ]
-
--- what is so of the first and of the others is so of each
-pub in_first : {A : Type 0} (P : A → Type 0) (x : A) (xs : List A) → P x → ((a : A) → In a xs → P a) → (a : A) → In a (x ∷ xs) → P a
-in_first P x xs p q a here = p
-in_first P x xs p q a (there i) = q a i
 
 -- a test that all pass
 pub all_in : {A : Type 0} (test : A → Bool) (xs : List A) → list_all test xs ≡ true → (a : A) → In a xs → test a ≡ true

@@ -1,5 +1,5 @@
 -- Where the shape of a source has no nested stack, what the source wants has none.
-use Rattle.std.proofs.Common.{◌≡◌, Bool, false, List, [], ◌∷◌, Option, Some, None, map, refl, ap, sym, ◌∙◌, subst}
+use Rattle.std.proofs.Common.{◌≡◌, Bool, false, List, [], ◌∷◌, Some, None, map, refl, ap, sym, ◌∙◌, subst}
 use Rattle.cf_tree.specs.declared.source.Source.{Source}
 use Rattle.cf_desired.specs.Kept.{IsShape}
 use Rattle.cf_desired.specs.Plan.{plan_by}

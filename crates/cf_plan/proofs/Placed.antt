@@ -14,7 +14,7 @@ use Rattle.cf_effect.specs.Words.{is_current_at}
 use Rattle.cf_desired.specs.Whole.{is_wanted_at}
 use Rattle.cf_desired.specs.declared.wanted.Wanted.{Wanted}
 use Rattle.cf_desired.proofs.Puts.{value_put}
-use Rattle.cf_plan.specs.Index.{ArePlaces, IsSetOf, put_held, put_place}
+use Rattle.cf_plan.specs.Index.{IsSetOf, put_held, put_place}
 use Rattle.cf_plan.proofs.Listed.{among_more}
 
 or_nothing : {A : Type 0} (o : Option A) → option_or o None ≡ o

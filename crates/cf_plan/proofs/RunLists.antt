@@ -11,6 +11,7 @@ use Rattle.cf_tree.specs.Lists.{here}
 use Rattle.cf_tree.specs.Lists.{In}
 use Rattle.cf_plan.proofs.CreatedStays.{in_more}
 use Rattle.cf_plan.proofs.CreatedRight.{in_filter}
+pub use Rattle.cf_rests.proofs.OfLists.{in_either}
 
 pub none_false : (b : Bool) → (b ≡ true → ⊥) → b ≡ false
 none_false true h = absurd (h refl)
@@ -35,11 +36,6 @@ in_end x xs = in_back x xs (x ∷ []) here
 pub in_one : {A : Type 0} (x y : A) → In x (y ∷ []) → x ≡ y
 in_one x y here = refl
 in_one x y (there i) = elim i [ ]
-
-pub in_either : {A : Type 0} (x : A) (xs ys : List A) → In x (xs ++ ys) → In x xs ⊎ In x ys
-in_either x [] ys i = inr i
-in_either x (y ∷ xs) ys here = inl here
-in_either x (y ∷ xs) ys (there i) = elim (in_either x xs ys i) [ inl j ↦ inl (there j) | inr j ↦ inr j ]
 
 pub in_kept : {A : Type 0} (test : A → Bool) (xs : List A) (x : A) → In x xs → test x ≡ true → In x (filter test xs)
 in_kept test (y ∷ xs) x here e = subst (λ b. In x (cond b (x ∷ filter test xs) (filter test xs))) (sym e) here

@@ -1,23 +1,21 @@
 -- Which paths are done by what is known of each, one after another, are those that are done; and what is ready, at fault and may
 -- begin by that is so.
-use Rattle.std.proofs.Common.{◌≡◌, ◌⊎◌, ◌↔◌, inl, inr, ℕ, zero, suc, ◌+◌, ◌<◌, ◌≤◌, Bool, true, false, ◌&&◌, ◌||◌, not, List, [], ◌∷◌, ◌++◌, Option, Some, None, IsTrue, fold, length, map, option_map, refl, ap, sym, ◌∙◌, subst, arith, true≢false}
+use Rattle.std.proofs.Common.{◌≡◌, ◌↔◌, inl, inr, ℕ, zero, suc, ◌+◌, ◌<◌, ◌≤◌, Bool, true, false, ◌&&◌, ◌||◌, not, List, [], ◌∷◌, ◌++◌, Option, Some, None, IsTrue, fold, length, map, option_map, refl, ap, sym, ◌∙◌, subst, arith, true≢false}
 use Rattle.std.specs.Prelude.{is_some, unwrap_or}
-use Rattle.std.specs.List.{list_all, slice_get}
+use Rattle.std.specs.List.{slice_get}
 use Rattle.std.specs.Option.{option_copied}
-use Rattle.std.specs.Str.{bytes_eq}
 use Rattle.std.proofs.lemmas.Bool.{and_from, and_parts}
 use Rattle.std.proofs.lemmas.Option.{none-some, same_Some, slice_get-map}
-use Rattle.cf_tree.specs.Datum.{Data, members_of}
-use Rattle.cf_tree.specs.Same.{same_members}
+use Rattle.cf_tree.specs.Datum.{Data}
 use Rattle.cf_effect.specs.declared.held.Held.{Held}
 use Rattle.cf_effect.specs.World.{StackState}
 use Rattle.cf_effect.specs.Words.{current_at}
 use Rattle.cf_plan.specs.Between.{needs_at}
-use Rattle.cf_plan.specs.Forward.{Finding, Bad, Later, Known, IsDone, is_made, is_updated, is_right, IsReady, AllDone, evaluated_at, wanted_paths, was_updated_at}
+use Rattle.cf_plan.specs.Forward.{Finding, Bad, Later, Known, IsDone, is_made, is_updated, is_right, AllDone, evaluated_at, wanted_paths, was_updated_at}
 use Rattle.cf_tree.specs.Lists.{there}
 use Rattle.cf_tree.specs.Lists.{here}
 use Rattle.cf_tree.specs.Lists.{In}
-use Rattle.cf_plan.specs.PathStates.{AreInPlace, AreStatesOf, IsStateOf, are_all_done_at, are_done_at, are_enough, done_by_places, finding_in, has_props, is_as_wanted, is_done_at, is_done_by, is_read, is_enough, with_done}
+use Rattle.cf_plan.specs.PathStates.{AreInPlace, AreStatesOf, are_all_done_at, are_done_at, are_enough, done_by_places, finding_in, has_props, is_as_wanted, is_done_at, is_done_by, is_read, is_enough, with_done}
 use Rattle.cf_plan.specs.declared.path_state.PathFinding.{PathFinding}
 use Rattle.cf_plan.specs.declared.path_state.PathFinding.TheVariants as it
 use Rattle.cf_plan.specs.declared.path_state.PathState.{PathState}

@@ -1,5 +1,5 @@
 -- What is at fault and what may begin, by what is known of each path; and whether the phase has failed on the way.
-use Rattle.std.proofs.Common.{◌≡◌, ◌⊎◌, ◌↔◌, inl, inr, ℕ, Bool, true, false, ◌&&◌, not, List, [], ◌∷◌, ◌++◌, Option, Some, None, IsTrue, flat_map, refl, ap, sym, ◌∙◌, subst, cond, true≢false}
+use Rattle.std.proofs.Common.{◌≡◌, ◌⊎◌, ◌↔◌, inl, inr, ℕ, Bool, true, false, ◌&&◌, not, List, [], ◌∷◌, Option, Some, None, IsTrue, flat_map, refl, ap, sym, ◌∙◌, subst, cond, true≢false}
 use Rattle.std.specs.Prelude.{Result, Ok, Err, IfOk}
 use Rattle.std.specs.declared.alloc.AllocError.{AllocError}
 use Rattle.std.specs.Option.{option_copied}
@@ -7,17 +7,16 @@ use Rattle.std.proofs.lemmas.Bool.{and_from, and_parts}
 use Rattle.std.proofs.lemmas.Option.{none-some, same_Some}
 use Rattle.cf_tree.specs.Datum.{Data}
 use Rattle.cf_tree.specs.declared.request.Request.{Request}
-use Rattle.cf_entry.specs.declared.turn.Reason.{Reason}
 use Rattle.cf_desired.specs.declared.flaw.Flaw.{Flaw}
 use Rattle.cf_schema.specs.declared.described.Schema.{Schema}
 use Rattle.cf_effect.specs.declared.held.Held.{Held}
 use Rattle.cf_effect.specs.World.{StackState, World}
 use Rattle.cf_effect.specs.Words.{current_at}
 use Rattle.cf_plan.specs.Between.{needs_at}
-use Rattle.cf_plan.specs.Causes.{IsFailureOf, or_call, or_path}
+use Rattle.cf_plan.specs.Causes.{IsFailureOf, or_path}
 use Rattle.cf_plan.specs.Failed.{least}
 use Rattle.cf_plan.specs.Follow.{IntendsForward, is_free}
-use Rattle.cf_plan.specs.Forward.{Finding, Bad, Later, Known, IsDone, IsReady, AllDone, HasFailed, IsBadAt, IsBadPath, evaluated_at, first_failing, path_of_token, plan_now, wanted_paths, was_answered_at}
+use Rattle.cf_plan.specs.Forward.{Finding, Bad, Later, Known, IsDone, IsReady, AllDone, HasFailed, IsBadAt, IsBadPath, evaluated_at, first_failing, plan_now, was_answered_at}
 use Rattle.cf_tree.specs.Lists.{there}
 use Rattle.cf_tree.specs.Lists.{here}
 use Rattle.cf_tree.specs.Lists.{In}
@@ -134,9 +133,9 @@ module _ (s : StackState) (ps : List PathState) (are : AreStatesOf s ps) (told :
 
     by_path : (o : Option (List ℕ × Flaw)) → least (ready_flaws done ps) ≡ o → IsFailureOf schemas name x s (or_path o Nothing)
     by_path (Some a) k =
-        let bad : IsBadPath s a.0 a.1 = inl (bad_is a.0 a.1 (least_in (ready_flaws done ps) a k)) in
-        (inr (inl (a.0, a.1, bad)), (a.1, refl, none, inl (a.0, bad, λ q other b. least_low (ready_flaws done ps) a k (q, other) (from_path q other b))))
-    by_path None k = not_failed (λ q f b. least_none (ready_flaws done ps) k (q, f) (from_path q f b))
+        let bad : IsBadPath s a.0 a.1 = inl (bad_is a.0 a.1 (least_in (λ b. b.0) (ready_flaws done ps) a k)) in
+        (inr (inl (a.0, a.1, bad)), (a.1, refl, none, inl (a.0, bad, λ q other b. least_low (λ b. b.0) (ready_flaws done ps) a k (q, other) (from_path q other b))))
+    by_path None k = not_failed (λ q f b. least_none (λ b. b.0) (ready_flaws done ps) k (q, f) (from_path q f b))
 
     pub failed_on_the_way : IsFailureOf schemas name x s (or_path (least (ready_flaws done ps)) Nothing)
     failed_on_the_way = by_path (least (ready_flaws done ps)) refl

@@ -1,8 +1,8 @@
 -- What is read off a layout, findings and calls is what is known of each path.
-use Rattle.std.proofs.Common.{◌≡◌, ◌⊎◌, inl, inr, ℕ, zero, suc, ◌+◌, ◌==◌, ◌<◌, ◌≤◌, Bool, true, false, ◌&&◌, ◌||◌, not, List, [], ◌∷◌, ◌++◌, Option, Some, None, IsTrue, find, fold, length, map, option_map, replicate, set, take, get_or, refl, ap, sym, ◌∙◌, subst, arith, cond, true≢false, nat_lt, position}
+use Rattle.std.proofs.Common.{◌≡◌, inl, inr, ℕ, zero, suc, ◌+◌, ◌==◌, ◌<◌, Bool, true, false, ◌&&◌, ◌||◌, not, List, [], ◌∷◌, ◌++◌, Option, Some, None, find, fold, length, map, option_map, replicate, set, take, get_or, refl, ap, sym, ◌∙◌, subst, arith, cond, true≢false, nat_lt, position}
 use Rattle.std.specs.Prelude.{is_some, option_and_then, unwrap_or}
 use Rattle.std.specs.List.{AllByRecursion, list_any, position_or_len, slice_get}
-use Rattle.std.specs.Option.{option_copied, option_map_or}
+use Rattle.std.specs.Option.{option_map_or}
 use Rattle.std.specs.Str.{bytes_eq}
 use Rattle.std.proofs.Math.Seq.{take-suc}
 use Rattle.std.specs.Cmp.{first_so, second_so}
@@ -10,7 +10,7 @@ use Rattle.std.proofs.lemmas.Bool.{eqb-true, eq-eqb}
 use Rattle.std.proofs.lemmas.List.{get_or-set_same, get_or-set_other, length-take-le}
 use Rattle.std.proofs.lemmas.List.Folds.{find_at}
 use Rattle.std.proofs.lemmas.List.Quantifiers.{position-Some}
-use Rattle.std.proofs.lemmas.Option.{none-some, same_Some, slice_get-map, slice_get_past, slice_get_within, unwrap_or-slice_get, get_or_from_slice_get, slice_get-get_or}
+use Rattle.std.proofs.lemmas.Option.{none-some, same_Some, slice_get-map, slice_get_past, slice_get_within, unwrap_or-slice_get, slice_get-get_or}
 use Rattle.cf_tree.specs.Datum.{Data}
 use Rattle.cf_tree.specs.Keys.{value_at}
 use Rattle.cf_tree.specs.Named.{all_differ}
@@ -28,12 +28,10 @@ use Rattle.cf_desired.specs.declared.wanted.Wanted.{Wanted}
 use Rattle.cf_desired.specs.Work.{Member}
 use Rattle.cf_desired.specs.declared.wanted.Evaluated.{Evaluated}
 use Rattle.cf_desired.specs.declared.wanted.Evaluated.TheVariants as result
-use Rattle.cf_desired.specs.declared.wanted.Plan.{Plan}
 use Rattle.cf_effect.proofs.Closed.{none_closed}
 use Rattle.cf_effect.specs.Begin.{seen_in}
-use Rattle.cf_effect.specs.Calls.{own_calls}
 use Rattle.cf_effect.specs.End.{seen_now}
-use Rattle.cf_effect.specs.Findings.{AreFindings, IsFound, place_among, props_now}
+use Rattle.cf_effect.specs.Findings.{AreFindings, place_among}
 use Rattle.cf_effect.specs.Layout.{AreRows, IsLayoutOf, is_row_of, members_of, path_at}
 use Rattle.cf_effect.specs.Reply.{terms_of, wanted_in}
 use Rattle.cf_effect.specs.Words.{current_at, is_current_at}
@@ -45,13 +43,13 @@ use Rattle.cf_effect.specs.declared.held.Held.{Held}
 use Rattle.cf_effect.specs.declared.layout.Layout.{Layout}
 use Rattle.cf_effect.specs.declared.layout.Placed.{Placed}
 use Rattle.cf_rests.proofs.Viewed.{by_paths}
-use Rattle.cf_rests.specs.Views.{IsPlanOf, wanted_from}
+use Rattle.cf_rests.specs.Views.{wanted_from}
 use Rattle.cf_plan.specs.Between.{needs_at}
 use Rattle.cf_plan.specs.Forward.{Finding, Later, evaluated_at, finding, known_or_later, plan_in, wanted_paths, was_answered_at, was_updated_at}
 use Rattle.cf_tree.specs.Lists.{there}
 use Rattle.cf_tree.specs.Lists.{here}
 use Rattle.cf_tree.specs.Lists.{In}
-use Rattle.cf_plan.specs.PathStates.{AreInPlace, AreStatesOf, IsStateOf, finding_in, is_done_at}
+use Rattle.cf_plan.specs.PathStates.{AreInPlace, AreStatesOf, IsStateOf, is_done_at}
 use Rattle.cf_plan.specs.StatesKept.{AreRead, IsRead, at_place, finding_kept, finding_from, is_marking, marked_at, marks_of, with_mark}
 use Rattle.cf_plan.specs.declared.path_state.PathState.{PathState}
 use Rattle.cf_plan.proofs.Listed.{bytes_same, in_cons, in_none, same_bytes}

@@ -1,8 +1,7 @@
 -- How it is told whether the forward phase has failed, and why (this project's own).
 use Rattle.std.specs.Prelude.{ℕ, Bool, List, ◌++◌, Option, Some, None, filter_map, fold, option_and_then, option_map, if◌then◌else◌}
 use Rattle.std.specs.List.{list_all}
-use Rattle.cf_tree.specs.Keys.{bytes_lt}
-use Rattle.cf_tree.specs.Lists.{is_among}
+use Rattle.cf_tree.specs.Lists.{is_among, least_by}
 use Rattle.cf_desired.specs.declared.flaw.Flaw.{Flaw}
 use Rattle.cf_desired.specs.declared.wanted.Evaluated.{Evaluated}
 use Rattle.cf_desired.specs.declared.wanted.Evaluated.TheVariants as result
@@ -32,16 +31,8 @@ abbrev pub flaws_found : Plan → Plan → List (List ℕ) → List (List ℕ ×
 flaws_found before now done = filter_map (flaw_found before now done) before.wanted ++ filter_map (inner_found done) now.nested
 
 -- the first of the least path in byte order
-abbrev pub lesser_flaw : Option (List ℕ × Flaw) → List ℕ × Flaw → Option (List ℕ × Flaw)
-lesser_flaw None b = Some b
-lesser_flaw (Some a) b = if bytes_lt b.0 a.0 then Some b else Some a
-
-abbrev pub lesser_of : Option (List ℕ × Flaw) → Option (List ℕ × Flaw) → Option (List ℕ × Flaw)
-lesser_of a None = a
-lesser_of a (Some b) = lesser_flaw a b
-
 abbrev pub least : List (List ℕ × Flaw) → Option (List ℕ × Flaw)
-least flaws = fold lesser_flaw None flaws
+least flaws = fold (least_by (λ b. b.0)) None flaws
 
 abbrev pub bad_of : bad.BadAt → List ℕ × Flaw
 bad_of b = (b.path.now, b.flaw.now)

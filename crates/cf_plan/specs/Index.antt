@@ -1,5 +1,5 @@
 -- The places of paths in a list, and names as a set, so that one is found by halves (this project's own).
-use Rattle.std.specs.Prelude.{◌≡◌, ℕ, Bool, true, List, Option, Some, find, is_some, option_map, slice_get, if◌then◌else◌}
+use Rattle.std.specs.Prelude.{◌≡◌, ℕ, Bool, List, Some, find, is_some, option_map, slice_get, if◌then◌else◌}
 use Rattle.cf_tree.specs.Keys.{put, value_at}
 use Rattle.cf_tree.specs.Lists.{is_among}
 use Rattle.cf_effect.specs.declared.held.Held.{Held}

@@ -1,6 +1,6 @@
 -- What is known of each path, as it is read off the layout of a source, the findings that its stack keeps, and the calls of its
 -- operation (this project's own).
-use Rattle.std.specs.Prelude.{◌≡◌, ℕ, ◌==◌, Bool, true, false, ◌&&◌, List, [], ◌∷◌, Option, Some, None, ⊤, fold, length, is_some, option_and_then, option_map, replicate, set, suc, if◌then◌else◌}
+use Rattle.std.specs.Prelude.{◌≡◌, ℕ, ◌==◌, Bool, true, false, ◌&&◌, List, [], ◌∷◌, Option, Some, None, ⊤, fold, is_some, option_and_then, option_map, replicate, set, suc, if◌then◌else◌}
 use Rattle.std.specs.List.{slice_get}
 use Rattle.std.specs.Option.{option_copied}
 use Rattle.cf_tree.specs.Datum.{Data}

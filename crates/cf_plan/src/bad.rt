@@ -1,7 +1,8 @@
 //! The path that fails the forward phase by a flaw of its template.
 ghost use Rattle.std.specs.Prelude.{◌≡◌, Some, filter_map, fold, option_map};
-ghost use Rattle.std.specs.Option.{option_copied};
-ghost use Rattle.cf_plan.specs.Failed.{bad_of, flaw_planned, flaw_found, flaws_found, inner_found, least, lesser_flaw, lesser_of};
+ghost use Rattle.std.specs.Option.{option_copied, option_to_list};
+ghost use Rattle.cf_tree.specs.Lists.{least_by};
+ghost use Rattle.cf_plan.specs.Failed.{bad_of, flaw_planned, flaw_found, flaws_found, inner_found, least};
 
 use crate::done::{are_among, are_met};
 use crate::index::{NameIndex, PlanIndex};
@@ -73,7 +74,7 @@ fn inner_found<'a>(done: &NameIndex, inner: &'a Inner) -> Option<BadAt<'a>>
 
 /// Of two paths the one that comes first in byte order, the first of them where they are the same.
 fn lesser<'a>(first: Option<BadAt<'a>>, second: BadAt<'a>) -> BadAt<'a>
-    ensures { Some (bad_of result) ≡ lesser_flaw (option_map bad_of first.entry) (bad_of second.entry) }
+    ensures { Some (bad_of result) ≡ least_by (λ b. b.0) (option_map bad_of first.entry) (bad_of second.entry) }
 {
     match first {
         Some(first) => {
@@ -92,7 +93,7 @@ pub(crate) fn lesser_of<'a>(
     first: Option<BadAt<'a>>,
     second: Option<BadAt<'a>>,
 ) -> Option<BadAt<'a>>
-    ensures { option_map bad_of result ≡ lesser_of (option_map bad_of first.entry) (option_map bad_of second.entry) }
+    ensures { option_map bad_of result ≡ fold (least_by (λ b. b.0)) (option_map bad_of first.entry) (option_to_list (option_map bad_of second.entry)) }
 {
     match second {
         Some(second) => Some(lesser(first, second)),
@@ -106,7 +107,7 @@ fn first_inner<'a>(
     nested: &'a [Inner],
     first: Option<BadAt<'a>>,
 ) -> Option<BadAt<'a>>
-    ensures { option_map bad_of result ≡ fold lesser_flaw (option_map bad_of first.entry) (filter_map (inner_found done.now) nested.now) }
+    ensures { option_map bad_of result ≡ fold (least_by (λ b. b.0)) (option_map bad_of first.entry) (filter_map (inner_found done.now) nested.now) }
 {
     let mut first = first;
     for inner in nested.iter() {

@@ -5,8 +5,7 @@ use Rattle.std.specs.Cmp.{first_so, second_so}
 use Rattle.std.specs.List.{list_all, list_any}
 use Rattle.std.specs.Str.{bytes_eq}
 use Rattle.std.proofs.lemmas.Slice.Eq.{bytes_eq-Decides}
-use Rattle.cf_tree.specs.Keys.{bytes_lt}
-use Rattle.cf_tree.specs.Lists.{first_in, is_among}
+use Rattle.cf_tree.specs.Lists.{first_in, here, is_among, least_by}
 use Rattle.cf_tree.specs.Named.{all_differ}
 use Rattle.cf_tree.specs.declared.source.Source.{Source}
 use Rattle.cf_export.specs.declared.Export.{Export}
@@ -15,7 +14,7 @@ use Rattle.cf_desired.specs.Plan.{plan_of}
 use Rattle.cf_desired.specs.Seeing.{Seen}
 use Rattle.cf_desired.specs.declared.wanted.Plan.{Plan}
 use Rattle.cf_desired.specs.declared.wanted.Wanted.{Wanted}
-use Rattle.cf_change.specs.Changes.{Changes, RowsFound, changes_by, found_of, is_empty, least_of, lesser}
+use Rattle.cf_change.specs.Changes.{Changes, RowsFound, changes_by, found_of, is_empty, least_of}
 use Rattle.cf_change.proofs.Shown.{held_shows_more}
 use Rattle.cf_entry.specs.declared.entry.Begun.TheVariants as begin
 use Rattle.cf_entry.specs.declared.status.Status.{Status}
@@ -25,13 +24,14 @@ use Rattle.cf_effect.specs.Begin.{source_for}
 use Rattle.cf_effect.specs.Status.{is_in_progress}
 use Rattle.cf_effect.specs.Words.{is_pinned}
 use Rattle.cf_effect.specs.World.{StackState, World, known_stack}
+use Rattle.cf_plan.proofs.Least.{least_none, none_least}
 use Rattle.cf_plan.specs.Accept.{Changing, ImportsWhatItUses, IsAccepted, IsReviewed, are_free, changes_on, creates_from, exports_by, held_by, is_exported_elsewhere, is_taken_away, seen_before, with_imports}
 use Rattle.cf_plan.specs.Follow.{MayBegin, are_among, continues_from, deletes_from, failed_of, is_pinned_export, may_retain, set_number, updates_from}
 use Rattle.cf_prepare.specs.Answer.{first_of}
 use Rattle.cf_prepare.specs.Imports.{UsesJust}
 use Rattle.cf_prepare.specs.Orders.{IsContinuation, IsDeletion, IsDeployment, IsReview, IsSorted, IsWritten, kind_by}
 use Rattle.cf_prepare.specs.Prepare.{ExecutesAs, ExecutesFound, OrderFollows, PreparesAs}
-use Rattle.cf_prepare.specs.Refusals.{continue_refusal, delete_refusal, deploy_refusal, execute_refusal, first_unknown, if_barred, if_flawed, if_in_use, if_missing, if_no_set, if_not_failed, if_taken, if_type_changed, if_unchanged, if_unknown, is_unknown_type, lost_names, may_keep, proposal, proposed_changes, proposed_plan, review_refusal, seen_proposed, set_of, set_refusal, lesser_wanted, source_refusals, taken_names, twice_in, unless_created}
+use Rattle.cf_prepare.specs.Refusals.{continue_refusal, delete_refusal, deploy_refusal, execute_refusal, first_unknown, if_barred, if_flawed, if_in_use, if_missing, if_no_set, if_not_failed, if_taken, if_type_changed, if_unchanged, if_unknown, is_unknown_type, lost_names, may_keep, proposal, proposed_changes, proposed_plan, review_refusal, seen_proposed, set_of, set_refusal, source_refusals, taken_names, twice_in, unless_created}
 use Rattle.cf_desired.specs.Whole.{export_names}
 use Rattle.cf_plan.specs.Accept.{schema_kinds}
 use Rattle.cf_plan.specs.Follow.{lane_kinds}
@@ -74,38 +74,20 @@ none_in (x ∷ xs) e = some_none x e
 pub flawless : (p : Plan) → if_flawed p ≡ None → p.flaws ≡ []
 flawless p h = none_in p.flaws (unmapped (λ f. fault.Plan f) (first_in p.flaws) h)
 
-some_stays : (v : Wanted) (ws : List Wanted) → fold lesser_wanted (Some v) ws ≡ None → ⊥
-some_stays v [] e = some_none v e
-some_stays v (w ∷ ws) e = by (λ u. some_stays u ws) (bytes_lt w.path v.path) e where
-  by : ((u : Wanted) → fold lesser_wanted (Some u) ws ≡ None → ⊥) → (b : Bool) → fold lesser_wanted (cond b (Some w) (Some v)) ws ≡ None → ⊥
-  by rest true h = rest w h
-  by rest false h = rest v h
-
 all_known : (kinds : List (List ℕ)) (ws : List Wanted) → first_unknown kinds ws ≡ None → list_all (λ w. is_among w.kind kinds) ws ≡ true
 all_known kinds [] e = refl
 all_known kinds (w ∷ ws) e = by (all_known kinds ws) (is_among w.kind kinds) e where
   by : (first_unknown kinds ws ≡ None → list_all (λ v. is_among v.kind kinds) ws ≡ true) → (b : Bool)
-      → fold lesser_wanted None (cond (not b) (w ∷ filter (is_unknown_type kinds) ws) (filter (is_unknown_type kinds) ws)) ≡ None
+      → fold (least_by (λ w. w.path)) None (cond (not b) (w ∷ filter (is_unknown_type kinds) ws) (filter (is_unknown_type kinds) ws)) ≡ None
       → (b && list_all (λ v. is_among v.kind kinds) ws) ≡ true
   by rest true h = rest h
-  by rest false h = absurd (some_stays w (filter (is_unknown_type kinds) ws) h)
+  by rest false h = absurd (least_none (λ w. w.path) (w ∷ filter (is_unknown_type kinds) ws) h w here)
 
 known : (kinds : List (List ℕ)) (p : Plan) → if_unknown kinds p ≡ None → list_all (λ w. is_among w.kind kinds) p.wanted ≡ true
 known kinds p h = all_known kinds p.wanted (unmapped (λ w. fault.UnknownType w.path w.kind) (first_unknown kinds p.wanted) h)
 
-least_stays : (p : List ℕ) (qs : List (List ℕ)) → fold lesser (Some p) qs ≡ None → ⊥
-least_stays p [] e = some_none p e
-least_stays p (q ∷ qs) e = by (λ r. least_stays r qs) (bytes_lt q p) e where
-  by : ((r : List ℕ) → fold lesser (Some r) qs ≡ None → ⊥) → (b : Bool) → fold lesser (cond b (Some q) (Some p)) qs ≡ None → ⊥
-  by rest true h = rest q h
-  by rest false h = rest p h
-
-pub none_least : (qs : List (List ℕ)) → least_of qs ≡ None → qs ≡ []
-none_least [] e = refl
-none_least (q ∷ qs) e = absurd (least_stays q qs e)
-
 same_types : (c : Changes) → if_type_changed c ≡ None → c.clash ≡ []
-same_types c h = none_least c.clash (unmapped (λ p. fault.Stack (stack.TypeChanged p)) (least_of c.clash) h)
+same_types c h = none_least (λ p. p) c.clash (unmapped (λ p. fault.Stack (stack.TypeChanged p)) (least_of c.clash) h)
 
 -- exports
 none_both : {A : Type 0} (xs ys : List A) → xs ++ ys ≡ [] → (xs ≡ []) × (ys ≡ [])
@@ -129,7 +111,7 @@ none_twice (n ∷ ns) h = by (is_among n ns) h (none_twice ns) where
 free : (name : List ℕ) (x : World) (p : Plan) → if_taken name x p ≡ None → are_free name x (export_names p) ≡ true
 free name x p h =
     let none = none_both (twice_in (export_names p)) (filter (is_exported_elsewhere name x) (export_names p))
-    (none_least (taken_names name x (export_names p)) (unmapped (λ n. fault.Stack (stack.ExportTaken n)) (least_of (taken_names name x (export_names p))) h)) in
+    (none_least (λ n. n) (taken_names name x (export_names p)) (unmapped (λ n. fault.Stack (stack.ExportTaken n)) (least_of (taken_names name x (export_names p))) h)) in
     λ i. none_twice (export_names p) none.0 i && not (none_passes (is_exported_elsewhere name x) (export_names p) none.1 i)
 
 unmapped_list : {A B : Type 0} (f : A → B) (xs : List A) → map f xs ≡ [] → xs ≡ []
@@ -140,7 +122,7 @@ not_in_use : (name : List ℕ) (x : World) (kept : List (List ℕ)) → if_in_us
 not_in_use name x kept h =
     none_passes (is_taken_away name x kept) x.exports
     (unmapped_list (λ e. e.name) (filter (is_taken_away name x kept) x.exports)
-    (none_least (lost_names name x kept) (unmapped (λ n. fault.Stack (stack.ExportInUse n)) (least_of (lost_names name x kept)) h)))
+    (none_least (λ n. n) (lost_names name x kept) (unmapped (λ n. fault.Stack (stack.ExportInUse n)) (least_of (lost_names name x kept)) h)))
 
 changing : (c : Changes) → if_unchanged c ≡ None → Changing c
 changing c h = by (is_empty c.rows) c.outputs_differ refl refl h where

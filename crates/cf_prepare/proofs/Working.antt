@@ -7,7 +7,7 @@ use Rattle.cf_tree.specs.Lists.{first_in}
 use Rattle.cf_tree.specs.declared.row.Row.{Row}
 use Rattle.cf_tree.specs.declared.source.Source.{Source}
 use Rattle.cf_schema.specs.declared.described.Schema.{Schema}
-use Rattle.cf_change.specs.Changes.{Changed, Changes, RowsFound, found_of, is_empty, least_of, refusal_by, refusal_of}
+use Rattle.cf_change.specs.Changes.{Changed, Changes, RowsFound, changes_by, found_of, is_empty, least_of, refusal_by, refusal_of}
 use Rattle.cf_change.specs.declared.held.HeldMap.{HeldMap}
 use Rattle.cf_change.specs.declared.set.ChangeFault.{ChangeFault}
 use Rattle.cf_change.specs.declared.set.ChangeFault.TheVariants as change
@@ -22,6 +22,7 @@ use Rattle.cf_effect.specs.Begin.{source_for}
 use Rattle.cf_effect.specs.World.{StackState, World, known_stack}
 use Rattle.cf_plan.specs.Accept.{creates_from, exports_by, held_by, with_imports}
 use Rattle.cf_prepare.specs.Answer.{TestsAs, first_of}
+use Rattle.cf_prepare.specs.Imports.{UsesJust}
 use Rattle.cf_prepare.specs.Orders.{IsDeployment, IsReview, kind_by}
 use Rattle.cf_prepare.specs.Prepare.{ExecutesAs, ExecutesFound, ExecutesSet}
 use Rattle.cf_prepare.specs.Refusals.{deploy_refusal, execute_refusal, if_barred, if_flawed, if_in_use, if_missing, if_no_set, if_taken, if_type_changed, if_unchanged, if_unknown, is_unchanged, proposal, proposed_changes, proposed_plan, refusals_by, review_refusal, set_of, set_refusal, source_refusals, unless_created}
@@ -29,7 +30,7 @@ use Rattle.cf_desired.specs.Whole.{export_names}
 use Rattle.cf_plan.specs.Accept.{schema_kinds}
 use Rattle.cf_plan.specs.Follow.{lane_kinds}
 use Rattle.cf_plan.specs.Follow.{deploys_from}
-use Rattle.cf_prepare.specs.Worked.{IsMild, IsWorked, WorksBy, changes_over, refusal_over, set_by}
+use Rattle.cf_prepare.specs.Worked.{IsMild, IsWorked, WorksAs, WorksBy, changes_over, refusal_over, set_by}
 use Rattle.cf_prepare.specs.declared.wish.Order.{Order}
 use Rattle.cf_prepare.specs.declared.wish.Order.TheVariants as order
 use Rattle.cf_prepare.specs.declared.wish.PrepareFault.{PrepareFault}
@@ -88,6 +89,12 @@ set_left c f (Err e) none clash h g = tt
 set_left c f (Ok t) none clash h g =
     g.1 ∙ nothing c (left_so c change.NoChanges none clash (subst (λ (k : ChangeFault). Changed c (Err k)) g.0 h)).1
 
+-- with the imports that it uses
+pub finished : (held : HeldMap) (source : Source) (found : RowsFound) (plan : Plan) (imports : List (List ℕ × List ℕ)) (r : Result Worked AllocError) → UsesJust source found.seen imports
+    → IfOk r (λ w. (w.imports ≡ imports) × (w.changes ≡ set_by (changes_by held.resources held.outputs held.exports found plan))) → IfOk r (WorksAs held source found plan)
+finished held source found plan imports (Err e) u h = tt
+finished held source found plan imports (Ok w) u h = (subst (λ (i : List (List ℕ × List ℕ)). UsesJust source found.seen i) (sym h.0) u, h.1)
+
 -- by what was found
 module _ (kinds : List (List ℕ)) (x : World) (name : List ℕ) (schemas : List Schema) (held : HeldMap) (source : Source) (found : RowsFound) (plan : Plan)
     (found_is : found ≡ found_of schemas held.resources source) (plan_is : plan ≡ plan_of source found.seen) where
@@ -123,12 +130,21 @@ module _ (kinds : List (List ℕ)) (x : World) (name : List ℕ) (schemas : List
     pub plan_flawless : plan.flaws ≡ []
     plan_flawless = ap (λ (q : Plan). q.flaws) plan_found ∙ work_flawless
 
-    pub work_clash : least_of c.clash ≡ None
-    work_clash =
+    unclashed : least_of c.clash ≡ None
+    unclashed =
         unmapped (λ q. fault.Stack (stack.TypeChanged q)) (least_of c.clash)
         (none_first (if_type_changed c) (if_taken name x p ∷ if_in_use name x (export_names p) ∷ [])
         (none_behind (if_unknown kinds p) (if_type_changed c ∷ if_taken name x p ∷ if_in_use name x (export_names p) ∷ [])
         (none_behind (if_flawed p) (if_unknown kinds p ∷ if_type_changed c ∷ if_taken name x p ∷ if_in_use name x (export_names p) ∷ []) none)))
+
+    pub work_clash : least_of found.clash ≡ None
+    work_clash = ap least_of (sym clash_is) ∙ unclashed
+
+  pub works_so : (w : Worked) → WorksAs held source found plan w → WorksBy schemas held source w
+  works_so w h = (
+    subst (λ (f : RowsFound). UsesJust source f.seen w.imports) found_is h.0,
+    h.1 ∙ (λ j. set_by (changes_by held.resources held.outputs held.exports (found_is j) (plan_found j))),
+  )
 
 -- on a stack
 pub worked_out : (kinds : List (List ℕ)) (x : World) (name : List ℕ) (schemas : List Schema) (source proposed : Source) (held : HeldMap) (r : Result Worked PrepareFault)

@@ -1,8 +1,7 @@
 -- Why a wish is refused (User Guide: what a stack's status lets be done, change sets, exports that are in use; TypeChanged, and
 -- that an export's name is tested before anything is made, are this project's own).
-use Rattle.std.specs.Prelude.{ℕ, ◌==◌, Bool, ◌&&◌, ◌||◌, not, List, [], ◌∷◌, ◌++◌, Option, Some, None, filter, find, fold, is_some, map, option_map, if◌then◌else◌}
-use Rattle.cf_tree.specs.Keys.{bytes_lt}
-use Rattle.cf_tree.specs.Lists.{first_in, is_among}
+use Rattle.std.specs.Prelude.{ℕ, ◌==◌, Bool, ◌&&◌, not, List, [], ◌∷◌, ◌++◌, Option, Some, None, filter, find, fold, is_some, map, option_map, if◌then◌else◌}
+use Rattle.cf_tree.specs.Lists.{first_in, is_among, least_by}
 use Rattle.cf_tree.specs.declared.source.Source.{Source}
 use Rattle.cf_schema.specs.declared.described.Schema.{Schema}
 use Rattle.cf_desired.specs.Plan.{plan_of}
@@ -52,15 +51,11 @@ abbrev pub if_flawed : Plan → Option PrepareFault
 if_flawed p = option_map (λ f. fault.Plan f) (first_in p.flaws)
 
 -- the first path, in byte order, of a type that there is not
-abbrev pub lesser_wanted : Option Wanted → Wanted → Option Wanted
-lesser_wanted None w = Some w
-lesser_wanted (Some v) w = if bytes_lt w.path v.path then Some w else Some v
-
 abbrev pub is_unknown_type : List (List ℕ) → Wanted → Bool
 is_unknown_type kinds w = not (is_among w.kind kinds)
 
 abbrev pub first_unknown : List (List ℕ) → List Wanted → Option Wanted
-first_unknown kinds ws = fold lesser_wanted None (filter (is_unknown_type kinds) ws)
+first_unknown kinds ws = fold (least_by (λ w. w.path)) None (filter (is_unknown_type kinds) ws)
 
 abbrev pub if_unknown : List (List ℕ) → Plan → Option PrepareFault
 if_unknown kinds p = option_map (λ w. fault.UnknownType w.path w.kind) (first_unknown kinds p.wanted)

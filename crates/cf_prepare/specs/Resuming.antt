@@ -6,10 +6,9 @@ use Rattle.cf_desired.specs.declared.wanted.Wanted.{Wanted}
 use Rattle.cf_effect.specs.Status.{goes_forward}
 use Rattle.cf_effect.specs.World.{StackState}
 use Rattle.cf_plan.specs.Forward.{IsDone, plan_before}
-use Rattle.cf_tree.specs.Lists.{In}
 use Rattle.cf_prepare.specs.Answer.{TestsAs}
-use Rattle.cf_tree.specs.Lists.{is_among}
-use Rattle.cf_prepare.specs.Refusals.{is_unknown_type, lesser_wanted}
+use Rattle.cf_tree.specs.Lists.{In, is_among, least_by}
+use Rattle.cf_prepare.specs.Refusals.{is_unknown_type}
 use Rattle.cf_prepare.specs.declared.wish.Order.{Order}
 use Rattle.cf_prepare.specs.declared.wish.Order.TheVariants as order
 use Rattle.cf_prepare.specs.declared.wish.PrepareFault.{PrepareFault}
@@ -42,4 +41,4 @@ abbrev pub is_stuck : List (List ℕ) → List (List ℕ) → Wanted → Bool
 is_stuck kinds done w = is_unknown_type kinds w && not (is_among w.path done)
 
 abbrev pub first_stuck : List (List ℕ) → List (List ℕ) → List Wanted → Option Wanted
-first_stuck kinds done ws = fold lesser_wanted None (filter (is_stuck kinds done) ws)
+first_stuck kinds done ws = fold (least_by (λ w. w.path)) None (filter (is_stuck kinds done) ws)

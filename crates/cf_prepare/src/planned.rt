@@ -2,10 +2,10 @@
 //! type it changes.
 ghost use Rattle.std.specs.Prelude.{◌≡◌, ⊤, Some, None, IfOk, map, option_map};
 ghost use Rattle.std.specs.Option.{option_copied};
-ghost use Rattle.cf_tree.specs.Lists.{is_among};
+ghost use Rattle.cf_tree.specs.Lists.{is_among, least_by};
 ghost use Rattle.cf_change.specs.Changes.{least_of};
 ghost use Rattle.cf_prepare.specs.Answer.{RefusesAs, TestsAs};
-ghost use Rattle.cf_prepare.specs.Refusals.{first_unknown, if_flawed, if_unknown, lesser_wanted};
+ghost use Rattle.cf_prepare.specs.Refusals.{first_unknown, if_flawed, if_unknown};
 ghost use Rattle.cf_plan.specs.Accept.{schema_kinds};
 ghost use Rattle.cf_plan.specs.Follow.{lane_kinds};
 ghost use Rattle.cf_prepare.specs.declared.wish.StackFault.TheVariants as stack;
@@ -56,7 +56,7 @@ pub(crate) fn schema_kinds(alloc: Global, schemas: &Schemas) -> Result<Names, Al
 
 /// The one of two resources that comes first by path; the earlier one where both have one path.
 pub(crate) fn sooner<'a>(first: Option<&'a Wanted>, one: &'a Wanted) -> &'a Wanted
-    ensures { Some result.now ≡ lesser_wanted (option_copied first.entry) one.now }
+    ensures { Some result.now ≡ least_by (λ w. w.path) (option_copied first.entry) one.now }
 {
     match first {
         Some(first) if one.path >= first.path => first,

@@ -1,14 +1,14 @@
 //! What a source comes to on a stack: the imports that it uses and what it changes, or why it is refused.
 ghost use Rattle.std.specs.Prelude.{◌≡◌, ◌∷◌, ⊤, [], None, IfOk, false};
 ghost use Rattle.cf_change.specs.declared.set.ChangeFault.TheVariants as change;
-ghost use Rattle.cf_change.specs.Changes.{Changes as Changed, found_of, is_empty, least_of};
+ghost use Rattle.cf_change.specs.Changes.{Changes as Changed, changes_by, found_of, is_empty, least_of};
 ghost use Rattle.cf_change.specs.declared.held.HeldMap.{HeldMap as Resources};
 ghost use Rattle.cf_desired.specs.Plan.{plan_of};
 ghost use Rattle.cf_desired.specs.Templates.{templates_of};
 ghost use Rattle.cf_prepare.specs.Answer.{TestsAs, first_of};
 ghost use Rattle.cf_prepare.specs.Refusals.{if_in_use, if_taken, if_unchanged, is_unchanged, proposal, refusals_by, source_refusals};
 ghost use Rattle.cf_desired.specs.Whole.{export_names};
-ghost use Rattle.cf_prepare.specs.Worked.{IsMild, IsWorked, WorksBy, changes_over, refusal_over, set_by};
+ghost use Rattle.cf_prepare.specs.Worked.{IsMild, IsWorked, WorksAs, WorksBy, refusal_over, set_by};
 
 use crate::held::held_of;
 use crate::imports::imports_used;
@@ -17,7 +17,7 @@ use crate::refusals::refused;
 use crate::source::proposal;
 use crate::taken::{export_names, test_in_use, test_taken};
 use crate::wish::{PrepareFault, StackFault};
-use cf_change::{ChangeFault, ChangeSet, Found, HeldMap, change_set, found_of};
+use cf_change::{ChangeFault, ChangeSet, Found, HeldMap, change_set_by, found_of};
 use cf_desired::{Plan, Templates, plan};
 use cf_schema::Schemas;
 use cf_stacks::World;
@@ -75,21 +75,20 @@ fn no_change(alloc: Global, fault: ChangeFault) -> Result<ChangeSet, AllocError>
     }
 }
 
-/// What a source changes of what is held, where no path has another type and the plan has no flaw.
+/// What a source changes of what is held, by what was found of it and by its plan, where no path has another type and the plan
+/// has no flaw.
 #[tactic(auto, using(crate::proofs::Working::mild, crate::proofs::Working::set_left))]
 fn changes_over(
     alloc: Global,
     held: &HeldMap,
-    source: &Source,
-    templates: &Templates,
-    schemas: &Schemas,
+    found: Found,
+    plan: &Plan,
 ) -> Result<ChangeSet, AllocError>
-    requires templates { templates.now ≡ templates_of source.now }
-    requires flawless { (changes_over schemas.now held.now source.now).flaws ≡ [] }
-    requires clash { least_of (changes_over schemas.now held.now source.now).clash ≡ None }
-    ensures { IfOk result (λ set. set ≡ set_by (changes_over schemas.now held.now source.now)) }
+    requires flawless { plan.now.flaws ≡ [] }
+    requires clash { least_of found.clash ≡ None }
+    ensures { IfOk result (λ set. set ≡ set_by (changes_by held.now.resources held.now.outputs held.now.exports found plan.now)) }
 {
-    match change_set(alloc, held, source, templates, schemas) {
+    match change_set_by(alloc, held, found, plan) {
         Ok(set) => Ok(set),
         Err(fault) => no_change(alloc, fault),
     }
@@ -98,23 +97,40 @@ fn changes_over(
 /// What a source comes to that is not refused.
 fn finish(
     alloc: Global,
-    schemas: &Schemas,
     held: &HeldMap,
     source: &Source,
     templates: &Templates,
-    found: &Found,
+    found: Found,
     plan: &Plan,
 ) -> Result<Worked, AllocError>
     requires templates { templates.now ≡ templates_of source.now }
-    requires found { found.now ≡ found_of schemas.now held.now.resources source.now }
-    requires plan { plan.now ≡ plan_of source.now found.now.seen }
-    requires sound { plan.now.flaws ≡ [] }
-    requires flawless { (changes_over schemas.now held.now source.now).flaws ≡ [] }
-    requires clash { least_of (changes_over schemas.now held.now source.now).clash ≡ None }
-    ensures { IfOk result (WorksBy schemas.now held.now source.now) }
+    requires plan { plan.now ≡ plan_of source.now found.seen }
+    requires flawless { plan.now.flaws ≡ [] }
+    requires clash { least_of found.clash ≡ None }
+    ensures { IfOk result (WorksAs held.now source.now found plan.now) }
 {
-    let imports = imports_used(alloc, source, templates, &found.seen, plan)?;
-    match changes_over(alloc, held, source, templates, schemas) {
+    match imports_used(alloc, source, templates, &found.seen, plan) {
+        Ok(imports) => finish_with(alloc, held, found, plan, imports),
+        Err(failed) => {
+            drop(found);
+            Err(failed)
+        }
+    }
+}
+
+/// What a source comes to that uses these imports.
+fn finish_with(
+    alloc: Global,
+    held: &HeldMap,
+    found: Found,
+    plan: &Plan,
+    imports: Pairs,
+) -> Result<Worked, AllocError>
+    requires flawless { plan.now.flaws ≡ [] }
+    requires clash { least_of found.clash ≡ None }
+    ensures { IfOk result (λ w. (w.imports ≡ imports) × (w.changes ≡ set_by (changes_by held.now.resources held.now.outputs held.now.exports found plan.now))) }
+{
+    match changes_over(alloc, held, found, plan) {
         Ok(changes) => Ok(Worked { imports, changes }),
         Err(failed) => {
             drop(imports);
@@ -130,20 +146,23 @@ fn work_by(
     held: &HeldMap,
     source: &Source,
     templates: &Templates,
-    found: &Found,
+    found: Found,
     plan: &Plan,
 ) -> Result<Worked, PrepareFault>
     requires templates { templates.now ≡ templates_of source.now }
-    requires found { found.now ≡ found_of place.now.schemas.now held.now.resources source.now }
-    requires plan { plan.now ≡ plan_of source.now found.now.seen }
+    requires found { found ≡ found_of place.now.schemas.now held.now.resources source.now }
+    requires plan { plan.now ≡ plan_of source.now found.seen }
     ensures { TestsAs (refusal_over place.now.kinds.now place.now.world.now.world place.now.name.now place.now.schemas.now held.now source.now) (WorksBy place.now.schemas.now held.now source.now) result }
 {
     match test_source(alloc, place, &found.clash, plan) {
         Ok(()) => {
-            let worked = finish(alloc, place.schemas, held, source, templates, found, plan)?;
+            let worked = finish(alloc, held, source, templates, found, plan)?;
             Ok(worked)
         }
-        Err(fault) => Err(fault),
+        Err(fault) => {
+            drop(found);
+            Err(fault)
+        }
     }
 }
 
@@ -161,9 +180,8 @@ fn work_over(
     let found = found_of(alloc, place.schemas, &held.resources, source, templates)?;
     match plan(alloc, source, templates, &found.seen) {
         Ok(plan) => {
-            let worked = work_by(alloc, place, held, source, templates, &found, &plan);
+            let worked = work_by(alloc, place, held, source, templates, found, &plan);
             drop(plan);
-            drop(found);
             worked
         }
         Err(_) => {

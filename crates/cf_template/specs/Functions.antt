@@ -4,6 +4,7 @@ use Rattle.std.specs.Prelude.{ℕ, List, [], ◌∷◌, codes, Bool, false, ◌|
 use Rattle.std.specs.Str.{bytes_eq}
 use Rattle.std.specs.List.{starts_with, list_any}
 use Rattle.serde_json.specs.Data.{Members, no_members, member}
+use Rattle.cf_tree.specs.Lists.{is_among}
 use Rattle.cf_tree.specs.declared.template.Param.{Param}
 use Rattle.cf_template.specs.declared.refusal.TemplateFault.{TemplateFault}
 use Rattle.cf_template.specs.declared.refusal.TemplateFault.TheVariants.{WrongShape, UnknownFunction}
@@ -12,14 +13,10 @@ use Rattle.cf_template.specs.declared.function.Function.{Function}
 use Rattle.cf_template.specs.declared.function.Function.TheVariants.{Ref, GetAtt, Sub, Join, Split, Select, FindInMap, If, ImportValue, Base64, Equals, Not, And, Or, Unsupported, Unknown}
 use Rattle.cf_template.specs.Words.{is_function}
 
--- whether a text is one of some
-abbrev pub is_among : List (List ℕ) → List ℕ → Bool
-is_among names k = list_any (λ n. bytes_eq k n) names
-
 -- what CloudFormation knows and isn't taken
 abbrev pub is_unsupported : List ℕ → Bool
 is_unsupported k =
-    is_among (codes "Fn::Transform" ∷ codes "Fn::GetAZs" ∷ codes "Fn::Cidr" ∷ codes "Fn::Length" ∷ codes "Fn::ToJsonString" ∷ []) k
+    is_among k (codes "Fn::Transform" ∷ codes "Fn::GetAZs" ∷ codes "Fn::Cidr" ∷ codes "Fn::Length" ∷ codes "Fn::ToJsonString" ∷ [])
     || starts_with nat_eq k (codes "Fn::ForEach")
 
 abbrev pub function_named : List ℕ → Function
@@ -65,8 +62,8 @@ stray_object ms at = WrongShape at
 -- the pseudo parameters that have a value (template reference, pseudo parameters)
 abbrev pub is_pseudo : List ℕ → Bool
 is_pseudo k =
-    is_among (codes "AWS::AccountId" ∷ codes "AWS::NotificationARNs" ∷ codes "AWS::Partition" ∷ codes "AWS::Region" ∷ codes "AWS::URLSuffix"
-    ∷ codes "AWS::StackName" ∷ codes "AWS::StackId" ∷ []) k
+    is_among k (codes "AWS::AccountId" ∷ codes "AWS::NotificationARNs" ∷ codes "AWS::Partition" ∷ codes "AWS::Region" ∷ codes "AWS::URLSuffix"
+    ∷ codes "AWS::StackName" ∷ codes "AWS::StackId" ∷ [])
 
 -- whether a template declares a parameter
 abbrev pub is_declared : List Param → List ℕ → Bool

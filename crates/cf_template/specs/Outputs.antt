@@ -3,18 +3,18 @@ use Rattle.std.specs.Prelude.{ℕ, List, [], ◌∷◌, ◌++◌, ◌&&◌, code
 use Rattle.std.specs.Str.{bytes_eq}
 use Rattle.serde_json.specs.Data.{Data, object, Members, no_members, member}
 use Rattle.cf_tree.specs.Forms.{Form}
+use Rattle.cf_tree.specs.Lists.{is_among}
 use Rattle.cf_tree.specs.declared.template.Param.{Param}
 use Rattle.cf_tree.specs.declared.template.Out.{Out}
 use Rattle.cf_template.specs.declared.refusal.TemplateFault.TheVariants.{WrongShape, BadName}
 use Rattle.cf_template.specs.Refusals.{Reading, after, mapped, provided}
 use Rattle.cf_template.specs.Places.{member_place}
 use Rattle.cf_template.specs.Words.{is_name}
-use Rattle.cf_template.specs.Functions.{is_among}
 use Rattle.cf_template.specs.Shapes.{has_only, has_member, optional, required, plain_text}
 use Rattle.cf_template.specs.Exprs.{form_of}
 
 abbrev pub is_output_member : List ℕ → Bool
-is_output_member = is_among (codes "Condition" ∷ codes "Description" ∷ codes "Export" ∷ codes "Value" ∷ [])
+is_output_member k = is_among k (codes "Condition" ∷ codes "Description" ∷ codes "Export" ∷ codes "Value" ∷ [])
 
 -- an object with the one member `Name`
 abbrev pub export_form : List Param → Data → List ℕ → Reading Form

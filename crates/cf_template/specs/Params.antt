@@ -5,6 +5,7 @@ use Rattle.std.specs.Fmt.{signed_decimal}
 use Rattle.serde_json.specs.Data.{Data, boolean, number, string, array, Members, no_members, member}
 use Rattle.serde_json.specs.Find.{as_i64, as_u64}
 use Rattle.cf_funcs.specs.Number.{digits_of, number_of}
+use Rattle.cf_tree.specs.Lists.{is_among}
 use Rattle.cf_tree.specs.declared.template.Param.{Param}
 use Rattle.cf_tree.specs.declared.template.Kind.{Kind}
 use Rattle.cf_tree.specs.declared.template.Kind.TheVariants as kind
@@ -14,12 +15,11 @@ use Rattle.cf_template.specs.declared.param.Limits.{Limits}
 use Rattle.cf_template.specs.Refusals.{Reading, after, mapped, provided}
 use Rattle.cf_template.specs.Places.{member_place}
 use Rattle.cf_template.specs.Words.{is_name}
-use Rattle.cf_template.specs.Functions.{is_among}
 use Rattle.cf_template.specs.Shapes.{has_only, has_member, optional, required, plain_text, items_from}
 
 abbrev pub is_param_member : List ℕ → Bool
-is_param_member =
-    is_among (codes "AllowedPattern" ∷ codes "AllowedValues" ∷ codes "ConstraintDescription" ∷ codes "Default" ∷ codes "Description"
+is_param_member k =
+    is_among k (codes "AllowedPattern" ∷ codes "AllowedValues" ∷ codes "ConstraintDescription" ∷ codes "Default" ∷ codes "Description"
     ∷ codes "MaxLength" ∷ codes "MaxValue" ∷ codes "MinLength" ∷ codes "MinValue" ∷ codes "NoEcho" ∷ codes "Type" ∷ [])
 
 -- the value that an option has

@@ -2,6 +2,7 @@
 use Rattle.std.specs.Prelude.{ℕ, List, [], ◌∷◌, ◌++◌, codes, Bool, Option, Some, None, Ok, Err, if◌then◌else◌}
 use Rattle.std.specs.Str.{bytes_eq}
 use Rattle.serde_json.specs.Data.{Data, string, array, object, Members, no_members, member}
+use Rattle.cf_tree.specs.Lists.{is_among}
 use Rattle.cf_tree.specs.declared.template.Param.{Param}
 use Rattle.cf_tree.specs.declared.template.Res.{Res}
 use Rattle.cf_tree.specs.declared.template.Deletion.{Deletion}
@@ -13,17 +14,16 @@ use Rattle.cf_template.specs.declared.refusal.TemplateFault.TheVariants.{WrongSh
 use Rattle.cf_template.specs.Refusals.{Reading, after, mapped, provided, unless, first_refusal}
 use Rattle.cf_template.specs.Places.{member_place}
 use Rattle.cf_template.specs.Words.{is_name}
-use Rattle.cf_template.specs.Functions.{is_among}
 use Rattle.cf_template.specs.Shapes.{has_member, optional, required, plain_text, unread, items_from}
 use Rattle.cf_template.specs.Exprs.{values_of}
 
 abbrev pub is_resource_member : List ℕ → Bool
-is_resource_member =
-    is_among (codes "Condition" ∷ codes "DeletionPolicy" ∷ codes "DependsOn" ∷ codes "Metadata" ∷ codes "Properties" ∷ codes "Type"
+is_resource_member k =
+    is_among k (codes "Condition" ∷ codes "DeletionPolicy" ∷ codes "DependsOn" ∷ codes "Metadata" ∷ codes "Properties" ∷ codes "Type"
     ∷ codes "UpdateReplacePolicy" ∷ [])
 
 abbrev pub is_untaken_member : List ℕ → Bool
-is_untaken_member = is_among (codes "CreationPolicy" ∷ codes "UpdatePolicy" ∷ [])
+is_untaken_member k = is_among k (codes "CreationPolicy" ∷ codes "UpdatePolicy" ∷ [])
 
 -- why a resource may not have the member of a name
 abbrev pub resource_member_fault : List ℕ → List ℕ → Option TemplateFault

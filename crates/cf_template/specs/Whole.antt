@@ -4,6 +4,7 @@ use Rattle.std.specs.Prelude.{ℕ, List, [], ◌∷◌, length, nat_lt, nat_le, 
 use Rattle.std.specs.Str.{bytes_eq}
 use Rattle.serde_json.specs.Data.{Data, string, object, Members, no_members, member}
 use Rattle.serde_json.specs.Find.{get}
+use Rattle.cf_tree.specs.Lists.{is_among}
 use Rattle.cf_tree.specs.declared.template.Template.{Template}
 use Rattle.cf_template.specs.declared.refusal.TemplateFault.{TemplateFault}
 use Rattle.cf_template.specs.declared.refusal.TemplateFault.TheVariants.{NotJson, TooLong, WrongShape, UnknownSection, BadVersion, TooMany, Unsupported}
@@ -12,7 +13,6 @@ use Rattle.cf_template.specs.Refusals.{Reading, after, mapped, provided, unless,
 use Rattle.cf_template.specs.Places.{member_place}
 use Rattle.cf_template.specs.Json.{json_of, count}
 use Rattle.cf_template.specs.Walk.{walk_fault}
-use Rattle.cf_template.specs.Functions.{is_among}
 use Rattle.cf_template.specs.Shapes.{optional, plain_text, unread}
 use Rattle.cf_template.specs.Params.{params_in}
 use Rattle.cf_template.specs.Maps.{mappings_in}
@@ -21,12 +21,12 @@ use Rattle.cf_template.specs.Resources.{resources_in}
 use Rattle.cf_template.specs.Outputs.{outputs_form}
 
 abbrev pub is_section : List ℕ → Bool
-is_section =
-    is_among (codes "AWSTemplateFormatVersion" ∷ codes "Conditions" ∷ codes "Description" ∷ codes "Mappings" ∷ codes "Metadata"
+is_section k =
+    is_among k (codes "AWSTemplateFormatVersion" ∷ codes "Conditions" ∷ codes "Description" ∷ codes "Mappings" ∷ codes "Metadata"
     ∷ codes "Outputs" ∷ codes "Parameters" ∷ codes "Resources" ∷ [])
 
 abbrev pub is_untaken_section : List ℕ → Bool
-is_untaken_section = is_among (codes "Hooks" ∷ codes "Rules" ∷ codes "Transform" ∷ [])
+is_untaken_section k = is_among k (codes "Hooks" ∷ codes "Rules" ∷ codes "Transform" ∷ [])
 
 -- why a template may not have the section of a name
 abbrev pub section_fault : List ℕ → Option TemplateFault

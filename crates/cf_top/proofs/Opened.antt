@@ -1,39 +1,36 @@
 -- An opening over lanes among which none is missing may follow, and so each entry of a journal with it.
-use Rattle.std.proofs.Common.{◌≡◌, ◌⊎◌, inl, inr, ℕ, ◌+◌, Bool, true, false, ◌&&◌, ◌||◌, List, [], ◌∷◌, ◌++◌, Option, Some, None, refl, ap, sym, ◌∙◌, subst, length, take, drop, map, cond, option_map, nat_eq, true≢false, arith}
-use Rattle.std.specs.Prelude.{fold, codes, if◌then◌else◌}
+use Rattle.std.proofs.Common.{◌≡◌, inl, inr, ℕ, ◌+◌, Bool, true, false, ◌&&◌, ◌||◌, List, [], ◌∷◌, ◌++◌, Option, Some, None, refl, ap, sym, ◌∙◌, subst, length, take, drop, cond, option_map, nat_eq, true≢false, arith}
+use Rattle.std.specs.Prelude.{fold, if◌then◌else◌}
 use Rattle.std.specs.List.{starts_with}
 use Rattle.std.specs.Option.{option_map_or}
 use Rattle.std.specs.Str.{bytes_eq}
-use Rattle.std.proofs.lemmas.List.{take-append-drop, length-map}
+use Rattle.std.proofs.lemmas.List.{length-map}
 use Rattle.std.proofs.lemmas.Option.{none-some}
 use Rattle.std.proofs.lemmas.Slice.Eq.{bytes_eq-Decides}
 use Rattle.std.specs.Cmp.{first_so, second_so}
 use Rattle.cf_funcs.specs.Pieces.{cut_at}
-use Rattle.cf_tree.specs.Keys.{bytes_lt, value_at}
-use Rattle.cf_tree.specs.Lists.{is_among}
+use Rattle.cf_tree.specs.Keys.{value_at}
+use Rattle.cf_tree.specs.Lists.{In, here, is_among, least_by, there}
 use Rattle.cf_tree.specs.declared.request.Request.{Request}
 use Rattle.cf_tree.specs.declared.request.Request.TheVariants as request
-use Rattle.cf_handler.specs.Move.{IsOfLane}
 use Rattle.cf_schema.specs.declared.described.Schema.{Schema}
 use Rattle.cf_entry.specs.declared.entry.Entry.{Entry}
 use Rattle.cf_entry.specs.declared.entry.Entry.TheVariants as entry
 use Rattle.cf_effect.specs.declared.held.Held.{Held}
 use Rattle.cf_effect.specs.declared.held.Pending.{Pending}
-use Rattle.cf_effect.specs.World.{StackState, World, empty_world, stack_at}
+use Rattle.cf_effect.specs.World.{StackState, World, empty_world}
 use Rattle.cf_effect.specs.Fold.{fold_of, world_after}
 use Rattle.cf_effect.specs.Words.{resources_of}
-use Rattle.cf_tree.specs.Lists.{there}
-use Rattle.cf_tree.specs.Lists.{here}
-use Rattle.cf_tree.specs.Lists.{In}
-use Rattle.cf_plan.specs.Follow.{HasLanes, IsLaneFor, IsNamedLane, MayFollow}
+use Rattle.cf_plan.specs.Follow.{HasLanes, IsNamedLane, MayFollow}
 use Rattle.cf_handler.specs.Move.{IsKindFor}
 use Rattle.cf_plan.specs.Cleared.{IsJournal}
 use Rattle.cf_plan.specs.Run.{AreFresh, IsRunEntry, Runs, LaneStates}
+use Rattle.cf_plan.proofs.Least.{lesser_some}
 use Rattle.cf_plan.proofs.RunLists.{in_either}
 use Rattle.cf_top.specs.Book.{world_left}
 use Rattle.cf_top.specs.Lanes.{kinds_of, lane_pairs}
 use Rattle.cf_top.specs.Meeting.{HasNeededLanes, Environment, open_over}
-use Rattle.cf_top.specs.Opening.{is_handed_in, lane_of, lower, missing, missing_in, opening, or_missing_call, or_missing_held, serves_call, serves_held}
+use Rattle.cf_top.specs.Opening.{is_handed_in, lane_of, missing, missing_in, opening, or_missing_held, serves_call, serves_held}
 use Rattle.cf_top.proofs.Books.{fold_append}
 
 -- a text that is cut at a colon
@@ -81,28 +78,20 @@ has_name (n ∷ names) (k ∷ kinds) name q e = by (bytes_eq name n) refl e (has
   by true s f rest = ((n, k), here, sym ((bytes_eq-Decides name n).0 s))
   by false s f rest = let r = rest f in (r.0, there r.1, r.2)
 
--- a name that is lacking is told
-never_none : (best : Option (List ℕ)) (name : List ℕ) → lower best name ≡ None → {A : Type 0} → A
-never_none None name e = absurd (none-some name (sym e))
-never_none (Some b) name e = by (bytes_lt name b) e where
-  by : (t : Bool) → cond t (Some name) (Some b) ≡ None → {A : Type 0} → A
-  by true q = absurd (none-some name (sym q))
-  by false q = absurd (none-some b (sym q))
-
 module _ {A : Type 0} (serves : A → Bool) (name : A → List ℕ) where
   abbrev or_lacking : Option (List ℕ) → A → Option (List ℕ)
-  or_lacking best a = if serves a then best else lower best (name a)
+  or_lacking best a = if serves a then best else least_by (λ n. n) best (name a)
 
   all_served : (best : Option (List ℕ)) (xs : List A) → fold or_lacking best xs ≡ None → (best ≡ None) × ((a : A) → In a xs → serves a ≡ true)
   all_served best [] e = (e, λ a i. elim i [ ])
   all_served best (x ∷ xs) e = by (serves x) refl (all_served (or_lacking best x) xs e) where
-    by : (t : Bool) → serves x ≡ t → (cond t best (lower best (name x)) ≡ None) × ((a : A) → In a xs → serves a ≡ true)
+    by : (t : Bool) → serves x ≡ t → (cond t best (least_by (λ n. n) best (name x)) ≡ None) × ((a : A) → In a xs → serves a ≡ true)
         → (best ≡ None) × ((a : A) → In a (x ∷ xs) → serves a ≡ true)
     by true s (q, rest) = (q, each) where
       each : (a : A) → In a (x ∷ xs) → serves a ≡ true
       each a here = s
       each a (there i) = rest a i
-    by false s (q, rest) = never_none best (name x) q
+    by false s (q, rest) = absurd (lesser_some (λ n. n) best (name x) q)
 
 -- each resource and each open call of a stack has its lane
 module _ (names kinds : List (List ℕ)) (as_many : length kinds ≡ length names) where

@@ -1,13 +1,12 @@
 -- The opening of a journal over lanes (this project's own format, docs/JOURNAL.md).
-use Rattle.std.specs.Prelude.{◌≡◌, ℕ, ◌+◌, ◌&&◌, ◌||◌, Bool, false, List, [], ◌∷◌, ◌++◌, map, fold, codes, nat_lt, if◌then◌else◌, find, Option, Some, None, Result, Ok, Err, IsTrue, ⊤}
+use Rattle.std.specs.Prelude.{◌≡◌, ℕ, ◌+◌, ◌&&◌, ◌||◌, Bool, false, List, [], ◌∷◌, ◌++◌, fold, codes, nat_lt, if◌then◌else◌, find, Option, Some, None, Result, Ok, Err, IsTrue, ⊤}
 use Rattle.std.specs.Str.{bytes_eq}
 use Rattle.std.specs.Option.{option_map_or}
 use Rattle.cf_funcs.specs.Pieces.{cut_at}
-use Rattle.cf_tree.specs.Keys.{bytes_lt}
 use Rattle.cf_tree.specs.declared.request.Request.{Request}
 use Rattle.cf_tree.specs.declared.request.Request.TheVariants as request
 use Rattle.cf_tree.specs.Counts.{HasRisen}
-use Rattle.cf_tree.specs.Lists.{is_among}
+use Rattle.cf_tree.specs.Lists.{is_among, least_by}
 use Rattle.cf_entry.specs.declared.entry.Entry.{Entry}
 use Rattle.cf_entry.specs.declared.entry.Entry.TheVariants as entry
 use Rattle.cf_effect.specs.declared.held.Held.{Held}
@@ -51,16 +50,11 @@ abbrev pub serves_call : List (List ℕ) → List (List ℕ) → List ℕ → Re
 serves_call names kinds lane (request.Create kind props) = is_handed_in names kinds lane kind
 serves_call names kinds lane _ = is_among lane names
 
--- the lower of a name and the best one so far, in the order of their bytes
-abbrev pub lower : Option (List ℕ) → List ℕ → Option (List ℕ)
-lower None name = Some name
-lower (Some best) name = if bytes_lt name best then Some name else Some best
-
 abbrev pub or_missing_held : List (List ℕ) → List (List ℕ) → Option (List ℕ) → Held → Option (List ℕ)
-or_missing_held names kinds best h = if serves_held names kinds h then best else lower best (lane_of h.physical)
+or_missing_held names kinds best h = if serves_held names kinds h then best else least_by (λ name. name) best (lane_of h.physical)
 
 abbrev pub or_missing_call : List (List ℕ) → List (List ℕ) → Option (List ℕ) → Pending → Option (List ℕ)
-or_missing_call names kinds best p = if serves_call names kinds p.lane p.request then best else lower best p.lane
+or_missing_call names kinds best p = if serves_call names kinds p.lane p.request then best else least_by (λ name. name) best p.lane
 
 -- a stack needs the lanes of its resources and of its open calls
 abbrev pub missing_in : List (List ℕ) → List (List ℕ) → Option (List ℕ) → StackState → Option (List ℕ)

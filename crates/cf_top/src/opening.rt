@@ -1,14 +1,14 @@
 //! The opening of a journal over lanes.
 ghost use Rattle.std.specs.Prelude.{◌≡◌, ◌≤◌, ◌^◌, ◌++◌, [], fold, map, IfOk, IfErr, OnOk, OnErr, IsTrue, None};
 ghost use Rattle.std.specs.List.{list_all};
-ghost use Rattle.cf_tree.specs.Lists.{is_among};
+ghost use Rattle.cf_tree.specs.Lists.{is_among, least_by};
 ghost use Rattle.cf_handler.specs.Name.{is_lane_name};
 ghost use Rattle.cf_disk.specs.Disk.{LeavesOnly};
 ghost use Rattle.cf_journal.specs.Record.{IsOldOrKept, KeepsRecord};
 ghost use Rattle.cf_top.specs.Book.{IsOpen, Holds, world_left};
 ghost use Rattle.cf_top.specs.Crash.{MayEnter, PassesTo};
 ghost use Rattle.cf_top.specs.Lanes.{kinds_of, lane_pairs};
-ghost use Rattle.cf_top.specs.Opening.{EnterTells, HasOpenCause, halt_exit, is_handed_in, lane_of, lower, missing, missing_in, number_named, opening, or_missing_call, or_missing_held, serves_call, serves_held, twice};
+ghost use Rattle.cf_top.specs.Opening.{EnterTells, HasOpenCause, halt_exit, is_handed_in, lane_of, missing, missing_in, number_named, opening, or_missing_call, or_missing_held, serves_call, serves_held, twice};
 
 use crate::book::{Book, Halt, append};
 use cf_disk::Disk;
@@ -177,7 +177,7 @@ fn serves_call<H: Handler>(lanes: &[H], lane: &str, request: &Request) -> bool
 
 /// The lower of a name and the best one so far.
 fn lower(alloc: Global, best: Option<Txt>, name: &str) -> Result<Option<Txt>, AllocError>
-    ensures { IfOk result (λ b. b ≡ lower best name.now) }
+    ensures { IfOk result (λ b. b ≡ least_by (λ n. n) best name.now) }
 {
     match best {
         Some(best) => {

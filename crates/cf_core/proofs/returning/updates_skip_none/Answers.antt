@@ -1,2 +1,2 @@
 pub returns : Rattle.cf_core.proofs.returning.updates_skip_none.Goals.returns
-returns c = Rattle.cf_core.proofs.BackSkips.updates_skip
+returns c = Rattle.cf_core.proofs.BackSteps.updates_skip

@@ -1,2 +1,2 @@
 pub returns : Rattle.cf_core.proofs.tidying.back_tidying_begins.Goals.returns
-returns c = Rattle.cf_core.proofs.TidyBegins.back_tidying_begins
+returns c = Rattle.cf_core.proofs.Cleanups.back_tidying_begins

@@ -1,2 +1,2 @@
 pub returns : Rattle.cf_core.proofs.tidying.cleanup_goes_on.Goals.returns
-returns c = Rattle.cf_core.proofs.TidyEnds.cleanup_goes_on
+returns c = Rattle.cf_core.proofs.Cleanups.cleanup_goes_on

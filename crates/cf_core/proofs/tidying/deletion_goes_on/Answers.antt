@@ -1,2 +1,2 @@
 pub returns : Rattle.cf_core.proofs.tidying.deletion_goes_on.Goals.returns
-returns c = Rattle.cf_core.proofs.GoingBack.deletion_goes_on
+returns c = Rattle.cf_core.proofs.GoingOn.deletion_goes_on

@@ -1,2 +1,2 @@
 pub returns : Rattle.cf_core.proofs.tidying.forward_goes_on.Goals.returns
-returns c = Rattle.cf_core.proofs.GoingForward.forward_goes_on
+returns c = Rattle.cf_core.proofs.GoingOn.forward_goes_on

@@ -1,2 +1,2 @@
 pub returns : Rattle.cf_core.proofs.tidying.rollback_goes_on.Goals.returns
-returns c = Rattle.cf_core.proofs.GoingBack.rollback_goes_on
+returns c = Rattle.cf_core.proofs.GoingOn.rollback_goes_on

@@ -1,2 +1,2 @@
 pub returns : Rattle.cf_core.proofs.tidying.tidying_begins.Goals.returns
-returns c = Rattle.cf_core.proofs.TidyBegins.tidying_begins
+returns c = Rattle.cf_core.proofs.Cleanups.tidying_begins

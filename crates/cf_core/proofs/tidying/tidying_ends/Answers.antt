@@ -1,2 +1,2 @@
 pub returns : Rattle.cf_core.proofs.tidying.tidying_ends.Goals.returns
-returns c = Rattle.cf_core.proofs.TidyEnds.tidying_ends
+returns c = Rattle.cf_core.proofs.Cleanups.tidying_ends

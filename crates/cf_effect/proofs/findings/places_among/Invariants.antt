@@ -1,6 +1,6 @@
-use Rattle.std.proofs.Common.{◌≡◌, map, take}
-use Rattle.cf_effect.specs.Findings.{place_among}
+use Rattle.std.proofs.Common.{take}
+use Rattle.cf_effect.specs.Following.{StandAt}
 use Rattle.cf_effect.proofs.findings.places_among.Given as goal
 
-abbrev pub invariant-loop-row : goal.invariant-loop-row
-invariant-loop-row l = l.places.items ≡ map (λ r. place_among r.path l.helds) (take l.row-index l.rows)
+abbrev pub invariant-loop-at : goal.invariant-loop-at
+invariant-loop-at l = StandAt l.layout (take l.at l.helds) l.places.items

@@ -9,6 +9,6 @@ loop-wanted-preserved c =
     let all = c.as_slice-wanted-items.ensures ∙ ap (λ (p : Plan). p.wanted) c.plan.ensures in
     let within = subst (λ ws. c.loop-wanted.wanted-index < length ws) all c.loop-wanted-test.true in
     let item = subst (λ ws. c.wanted-item.result ≡ get_or ws c.loop-wanted.wanted-index c.wanted-item.result) all c.wanted-item.is in
-    folded_more (flaw_found c.args.before.now c.args.now.now c.args.done.now) c.args.before.now.wanted c.loop-wanted.wanted-index c.wanted-item.result None
+    folded_more (λ b. b.0) (flaw_found c.args.before.now c.args.now.now c.args.done.now) c.args.before.now.wanted c.loop-wanted.wanted-index c.wanted-item.result None
     (option_map bad_of c.loop-wanted.first) (option_map bad_of c.flaw_found.result) (option_map bad_of c.lesser_of-first.result) within item
     c.loop-wanted.invariant c.flaw_found.ensures c.lesser_of-first.ensures

@@ -1,7 +1,6 @@
-use Rattle.std.proofs.Common.{subst}
-use Rattle.cf_change.specs.Changes.{RowsFound}
-use Rattle.cf_prepare.specs.Imports.{UsesJust}
+use Rattle.cf_prepare.proofs.Working.{finished}
 use Rattle.cf_prepare.proofs.work.finish.Goals as goal
 
 pub returns-in-Ok : goal.returns-in-Ok
-returns-in-Ok c = (subst (λ (f : RowsFound). UsesJust c.args.source.now f.seen c.in_ok-imports.imports) c.requires.found c.in_ok-imports.ensures, c.in-Ok.ensures)
+returns-in-Ok c =
+    finished c.args.held.now c.args.source.now c.args.found c.args.plan.now c.in-Ok.imports c.finish_with.result c.in-Ok.ensures c.finish_with.ensures

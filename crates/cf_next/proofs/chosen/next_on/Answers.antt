@@ -1,0 +1,8 @@
+use Rattle.std.proofs.Common.{subst}
+use Rattle.cf_next.specs.Rollback.{IsTaken}
+use Rattle.cf_next.proofs.chosen.next_on.Goals as goal
+
+pub returns-in-Some : goal.returns-in-Some
+returns-in-Some c = λ stage in_stage.
+    subst (IsTaken c.args.out.now c.args.world.now.world c.args.stack.now.stack) c.in-Some.is c.in_ok-deletion.ensures c.args.schemas.now
+    c.args.name.now stage in_stage
