@@ -10,7 +10,7 @@ use std::alloc::Global;
 
 /// A value behind the byte for its kind, of at most so many levels of lists and dictionaries.
 #[cycle(take_value)]
-#[tactic(auto, unfolding(crate::specs::Reading::value_at))]
+#[tactic(auto, unfolding(crate::specs::Reading::datum_at))]
 fn take_value(alloc: Global, depth: usize, bytes: &[u8]) -> Result<(Val, &[u8]), Unread>
     ensures { Decodes (λ x. (datum_of x.0, x.1.now)) result (datum_at depth bytes.now) }
 {
