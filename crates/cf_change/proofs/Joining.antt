@@ -62,17 +62,17 @@ module _ {A : Type 0} (is_before : A → A → Bool) (asym : (a b : A) → is_be
       rw (b 0 x (omega arith)) (ap (λ ys. x ∷ ys) (joins_at xs a i (omega (arith, l)) (λ j d m. b (suc j) d (omega (arith, m))) (λ j d m k. n (suc j) d (omega (arith, m)) (omega (arith, k)))))
 
 -- rows by path
-turned : (k l : List ℕ) (o : Ordering) → slice_cmp nat_cmp k l ≡ o → slice_cmp nat_cmp l k ≡ ordering_reverse o
+pub turned : (k l : List ℕ) (o : Ordering) → slice_cmp nat_cmp k l ≡ o → slice_cmp nat_cmp l k ≡ ordering_reverse o
 turned k l o e = nat_list_cmp_total.antisymm l k ∙ ap ordering_reverse e
 
-lt_not : (k l : List ℕ) → bytes_lt k l ≡ true → bytes_lt l k ≡ false
+pub lt_not : (k l : List ℕ) → bytes_lt k l ≡ true → bytes_lt l k ≡ false
 lt_not k l h = by (slice_cmp nat_cmp k l) refl h where
   by : (o : Ordering) → slice_cmp nat_cmp k l ≡ o → is_lt o ≡ true → bytes_lt l k ≡ false
   by Less e g = ap is_lt (turned k l Less e)
   by Equal e g = absurd (true≢false (sym g))
   by Greater e g = absurd (true≢false (sym g))
 
-lt_neither : (k l m : List ℕ) → bytes_lt k l ≡ false → bytes_lt l m ≡ false → bytes_lt k m ≡ false
+pub lt_neither : (k l m : List ℕ) → bytes_lt k l ≡ false → bytes_lt l m ≡ false → bytes_lt k m ≡ false
 lt_neither k l m f g = by (slice_cmp nat_cmp k m) refl where
   last : (o : Ordering) → slice_cmp nat_cmp k m ≡ Less → slice_cmp nat_cmp k l ≡ o → is_lt o ≡ false → is_lt Less ≡ false
   last Less e h n = n

@@ -10,7 +10,6 @@ use Rattle.std.specs.Option.{option_map_or}
 use Rattle.std.specs.Str.{bytes_eq}
 use Rattle.cf_tree.specs.Datum.{Data}
 use Rattle.cf_tree.specs.Keys.{value_at, put, bytes_lt}
-use Rattle.cf_tree.specs.Same.{same_data}
 use Rattle.cf_tree.specs.declared.row.Row.{Row}
 use Rattle.cf_tree.specs.declared.row.Detail.{Detail}
 use Rattle.cf_tree.specs.declared.row.Action.TheVariants as action
@@ -32,6 +31,7 @@ use Rattle.cf_change.specs.declared.found.Found as kept_found
 use Rattle.cf_change.specs.declared.held.HeldAt as kept_held
 use Rattle.cf_export.specs.declared.Output.{Output}
 use Rattle.cf_schema.specs.declared.described.Schema.{Schema}
+use Rattle.cf_schema.specs.Change.{value_differs}
 use Rattle.cf_schema.specs.Kinds.{found}
 use Rattle.cf_desired.specs.declared.wanted.Evaluated.TheVariants.{Flawed as flawed, Known as evaluated}
 use Rattle.cf_desired.specs.declared.wanted.Exporting.{Exporting}
@@ -67,18 +67,19 @@ abbrev pub recreation_of : Option Schema → List ℕ → Recreation
 recreation_of None name = recreation.Never
 recreation_of (Some g) name = recreation_by g name
 
--- A property whose value is Later has a Dynamic detail; one whose known value differs, or that stands on one side alone, a Static one.
-abbrev pub differs : Option Data → Option (Option Data) → Option Evaluation
-differs old (Some None) = Some evaluation.Dynamic
-differs (Some a) (Some (Some b)) = if same_data a b then None else Some evaluation.Static
-differs None (Some (Some b)) = Some evaluation.Static
-differs (Some a) None = Some evaluation.Static
-differs None None = None
+-- A property whose value is Later has a Dynamic detail; one that differs, as a schema's properties do, a Static one.
+abbrev pub static_if : Bool → Option Evaluation
+static_if does = if does then Some evaluation.Static else None
+
+abbrev pub evaluation_of : Option Data → Option (Option Data) → Option Evaluation
+evaluation_of old (Some None) = Some evaluation.Dynamic
+evaluation_of old (Some (Some new)) = static_if (value_differs old (Some new))
+evaluation_of old None = static_if (value_differs old None)
 
 abbrev pub property_detail : Option Schema → List (List ℕ × Data) → List (List ℕ × Option Data) → List ℕ → List Detail
 property_detail g old new name =
     option_map_or (λ e. record { attribute = attribute.Properties; name = name; recreation = recreation_of g name; evaluation = e } ∷ [])
-    (differs (value_at name old) (value_at name new)) []
+    (evaluation_of (value_at name old) (value_at name new)) []
 
 -- the names on either side, each once, in byte order
 abbrev pub names_on_either : List (List ℕ × Data) → List (List ℕ × Option Data) → List (List ℕ)
@@ -285,8 +286,12 @@ refusal_by None (Some path) same = Some (fault.TypeChanged path)
 refusal_by None None true = Some fault.NoChanges
 refusal_by None None false = None
 
+-- nothing changes: there is no row, and no output differs
+abbrev pub is_unchanged : Changes → Bool
+is_unchanged c = is_empty c.rows && not c.outputs_differ
+
 abbrev pub refusal_of : Changes → Option ChangeFault
-refusal_of c = refusal_by (first_in c.flaws) (least_of c.clash) (is_empty c.rows && not c.outputs_differ)
+refusal_of c = refusal_by (first_in c.flaws) (least_of c.clash) (is_unchanged c)
 
 -- why there is no plan, as a refusal of the change set
 abbrev pub refused : DesiredFault → ChangeFault

@@ -5,7 +5,7 @@ ghost use Rattle.std.specs.Option.{option_copied};
 ghost use Rattle.cf_tree.specs.Keys.{value_at};
 ghost use Rattle.cf_tree.specs.Value.{datum_of, pairs_of};
 ghost use Rattle.cf_desired.specs.Props.{prop_of};
-ghost use Rattle.cf_change.specs.Changes.{details_for, differs, is_always_static, is_never, names_on_either, policy_details, property_details, props_or_none, recreation_of, replacement_of};
+ghost use Rattle.cf_change.specs.Changes.{details_for, evaluation_of, is_always_static, is_never, names_on_either, policy_details, property_details, props_or_none, recreation_of, replacement_of};
 ghost use Rattle.cf_tree.specs.declared.row.Evaluation.TheVariants as evaluation;
 ghost use Rattle.cf_tree.specs.declared.row.Recreation.TheVariants as recreation;
 ghost use Rattle.cf_desired.specs.Shape.{put_name};
@@ -57,7 +57,7 @@ fn property_details(
     let mut details = Details::new(alloc);
     for pair in names.as_slice() {
         let name = &pair.0;
-        if let Some(evaluation) = differs(old.get(name.as_str()), property(new, name)) {
+        if let Some(evaluation) = evaluation_of(old.get(name.as_str()), property(new, name)) {
             details.push(Detail {
                 attribute: Attribute::Properties,
                 name: name.try_clone(alloc)?,
@@ -110,8 +110,8 @@ fn property<'a>(props: &'a [Prop], name: &Txt) -> Option<Option<&'a Val>>
 }
 
 /// Whether a property differs: what is not known yet may.
-fn differs(old: Option<&Val>, new: Option<Option<&Val>>) -> Option<Evaluation>
-    ensures { result ≡ differs (option_map datum_of (option_copied old.entry)) (option_map (λ v. option_map datum_of (option_copied v)) new.entry) }
+fn evaluation_of(old: Option<&Val>, new: Option<Option<&Val>>) -> Option<Evaluation>
+    ensures { result ≡ evaluation_of (option_map datum_of (option_copied old.entry)) (option_map (λ v. option_map datum_of (option_copied v)) new.entry) }
 {
     match (old, new) {
         (_, Some(None)) => Some(Evaluation::Dynamic),

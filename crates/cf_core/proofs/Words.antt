@@ -43,7 +43,7 @@ pub use Rattle.cf_desired.specs.Whole.{Right, all_of, is_wanted_at, known_of, kn
 pub use Rattle.cf_desired.specs.Work.{Body, Inside, Member, Nesting, Shape, barred, resource}
 pub use Rattle.cf_desired.specs.{declared.flaw.Flaw.Flaw, declared.wanted.Evaluated.Evaluated, declared.wanted.Plan.Plan}
 pub use Rattle.cf_desired.specs.declared.wanted.Wanted.{Wanted}
-pub use Rattle.cf_desired.specs.Shape.{Entering, Laying, Url, body_at, body_bound, body_decided, body_in_order, progress_after, entering_below, given_root, inside_of, laid, laid_within, nested_before, nesting_of, root_of, shape_of, step_before, unnamed_at, work_along}
+pub use Rattle.cf_desired.specs.Shape.{Entering, Laying, body_at, body_bound, body_decided, body_in_order, progress_after, entering_below, given_root, inside_of, laid, laid_within, nested_before, nesting_of, root_of, shape_of, step_before, unnamed_at, work_along}
 pub use Rattle.cf_effect.specs.Begin.{as_before, beginning, calls_kept, continues, given_up, lost_create, seen_as_held, seen_in, skipped_creates, skipped_in, source_for}
 pub use Rattle.cf_effect.specs.Calls.{anew, answered_call, call_under, deletions_of, doubts_of, is_call, is_open_call, is_refusal, is_restore, is_success, new_call, one_more, own_calls, refusals_of, succeeded, was_refused, was_restored, was_updated, where_call}
 pub use Rattle.cf_effect.specs.{Effect.entries_with, Effect.heard, Effect.on_stack, Event.lines_of}

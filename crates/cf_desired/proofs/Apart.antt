@@ -18,7 +18,7 @@ use Rattle.cf_template.specs.Whole.{template_of}
 use Rattle.cf_template.specs.Words.{is_name}
 use Rattle.cf_template.specs.declared.refusal.TemplateFault.{TemplateFault}
 use Rattle.cf_template.proofs.Ordered.{AreNamed, template_names}
-use Rattle.cf_eval.specs.Env.{conditions_of}
+use Rattle.cf_eval.specs.Conditions.{conditions_of}
 use Rattle.cf_eval.specs.Outcome.{Outcome, got, later, bad}
 use Rattle.cf_eval.specs.Scope.{Scope}
 use Rattle.cf_graph.specs.Needs.{OrderFault, needs_of, is_next, ordered, all_needs, order_of, cycle_of, unknown_dependency, unless_unknown, resource_named}
@@ -26,7 +26,7 @@ use Rattle.cf_desired.specs.Given.{Given, given_in, settings_for}
 use Rattle.cf_desired.specs.Names.{path_in, pseudo_of}
 use Rattle.cf_desired.specs.PathsDiffer.{PathsDiffer, shape_paths}
 use Rattle.cf_desired.specs.Seeing.{Seen, first_sights}
-use Rattle.cf_desired.specs.Shape.{has_stack_shape, first_later, Entering, PlanInProgress, Laying, Url, url, no_url, first_stands, own_in, unnamed_at, member_of, nesting_of, url_of, laid_within, entering_below, body_at, inside_of, progress_after, nested_before, step_before, work_along, body_in_order, verdicts_of, body_decided, body_bound, laid, given_root, root_of, shape_of}
+use Rattle.cf_desired.specs.Shape.{has_stack_shape, first_later, Entering, PlanInProgress, Laying, first_stands, own_in, unnamed_at, member_of, nesting_of, template_name_of, laid_within, entering_below, body_at, inside_of, progress_after, nested_before, step_before, work_along, body_in_order, verdicts_of, body_decided, body_bound, laid, given_root, root_of, shape_of}
 use Rattle.cf_desired.specs.Stack.{Verdicts, Settings, Scoping, scoping}
 use Rattle.cf_desired.specs.Templates.{is_stack, accepted, template_named}
 use Rattle.cf_desired.specs.Valued.{nestings_along, nestings_inside, nestings_in, resources_along, resources_inside, resources_in}
@@ -331,9 +331,9 @@ module _ (lay : Option Laying) (source : Source) (seen : Seen) (lays : LaysGood 
     either false true = none_good n.path
     either false false = h (entering_below e n r t) g (templates + 1) (members + length t.resources) s
 
-  url_good : (e : Entering) (n : Nesting) (r : Res) (templates members : ℕ) (g : Given) (u : Url) → BodyGood n.path (body_at lay source e n r templates members g u)
-  url_good e n r templates members g (no_url f) = none_good n.path
-  url_good e n r templates members g (url name) = within_good lay lays n.path name templates members (template_named name source) (if_named name source) e n r g
+  name_good : (e : Entering) (n : Nesting) (r : Res) (templates members : ℕ) (g : Given) (u : Result (List ℕ) Flaw) → BodyGood n.path (body_at lay source e n r templates members g u)
+  name_good e n r templates members g (Err f) = none_good n.path
+  name_good e n r templates members g (Ok name) = within_good lay lays n.path name templates members (template_named name source) (if_named name source) e n r g
 
   inside_good : (e : Entering) (s : Scope) (c : PlanInProgress) (n : Nesting) (r : Res) (o : Option Flaw)
       → GoodIn n.path (resources_inside (inside_of lay source e s c n r o)) (nestings_inside (inside_of lay source e s c n r o))
@@ -341,9 +341,9 @@ module _ (lay : Option Laying) (source : Source) (seen : Seen) (lays : LaysGood 
   inside_good e s c n r None = either (has_stack_shape r) where
     either : (b : Bool)
         → GoodIn n.path
-        (resources_inside (cond b (inside.given_by (value_at (codes "Parameters") r.props) (body_at lay source e n r c.templates c.members (given_in s (value_at (codes "Parameters") r.props)) (url_of e.stack.path n.path s r))) (shut (flaw.Shape n.path))))
-        (nestings_inside (cond b (inside.given_by (value_at (codes "Parameters") r.props) (body_at lay source e n r c.templates c.members (given_in s (value_at (codes "Parameters") r.props)) (url_of e.stack.path n.path s r))) (shut (flaw.Shape n.path))))
-    either true = url_good e n r c.templates c.members (given_in s (value_at (codes "Parameters") r.props)) (url_of e.stack.path n.path s r)
+        (resources_inside (cond b (inside.given_by (value_at (codes "Parameters") r.props) (body_at lay source e n r c.templates c.members (given_in s (value_at (codes "Parameters") r.props)) (template_name_of e.stack.path n.path s r))) (shut (flaw.Shape n.path))))
+        (nestings_inside (cond b (inside.given_by (value_at (codes "Parameters") r.props) (body_at lay source e n r c.templates c.members (given_in s (value_at (codes "Parameters") r.props)) (template_name_of e.stack.path n.path s r))) (shut (flaw.Shape n.path))))
+    either true = name_good e n r c.templates c.members (given_in s (value_at (codes "Parameters") r.props)) (template_name_of e.stack.path n.path s r)
     either false = none_good n.path
 
   module _ (e : Entering) (conds : Verdicts) (over : Scoping) (named : AreNamed e.stack.template.resources) where

@@ -7,47 +7,32 @@ use Rattle.cf_eval.specs.declared.env.OutputSight.TheVariants as output
 use Rattle.cf_eval.specs.declared.fault.EvalFault.{EvalFault}
 use Rattle.cf_eval.specs.declared.fault.EvalFault.TheVariants as answer
 use Rattle.cf_eval.specs.declared.fault.EvalWhy.{EvalWhy}
-use Rattle.cf_eval.specs.Env.{RefusesIn, stopped_at}
-use Rattle.cf_eval.specs.Outcome.{Outcome, Stop, bad, fault, undecided, below}
-use Rattle.cf_desired.specs.declared.told.Blame.{Blame}
+use Rattle.cf_eval.specs.Env.{RefusesIn}
+use Rattle.cf_eval.specs.Outcome.{Outcome, Stop, bad}
+use Rattle.cf_desired.specs.declared.evaluations.Blame.{Blame}
 use Rattle.cf_desired.specs.Kept.{IsBlameOf, blame_at, flaw_of_blame}
 use Rattle.cf_desired.specs.Seeing.{broken_at}
 use Rattle.cf_desired.specs.Stack.{flaw_at}
 
-pub flaw_blamed : (path : List ℕ) (s : Stop) → flaw_of_blame (blame_at path s) ≡ flaw_at path s
-flaw_blamed path (fault why at) = refl
-flaw_blamed path (undecided name at) = refl
-flaw_blamed path (below why stack at) = refl
-
 pub some_blamed : (path : List ℕ) (o : Option Stop) → option_map flaw_of_blame (option_map (blame_at path) o) ≡ option_map (flaw_at path) o
 some_blamed path None = refl
-some_blamed path (Some s) = ap (λ f. Some f) (flaw_blamed path s)
+some_blamed path (Some s) = refl
 
 -- an output that is broken
 abbrev pub sight_by : Blame → OutputSight
 sight_by b = output.Broken b.why b.stack b.at
 
-pub sight_blamed : (path : List ℕ) (s : Stop) → sight_by (blame_at path s) ≡ broken_at path s
-sight_blamed path (fault why at) = refl
-sight_blamed path (undecided name at) = refl
-sight_blamed path (below why stack at) = refl
-
 -- what is seen of an output, by what is to blame
 pub made_sight : (path : List ℕ) (o : Option Stop) (v : Option (List ℕ)) → option_map_or sight_by (option_map (blame_at path) o) (output.Made v) ≡ option_map_or (broken_at path) o (output.Made v)
 made_sight path None v = refl
-made_sight path (Some s) v = sight_blamed path s
+made_sight path (Some s) v = refl
 
 abbrev from_stop : EvalWhy × (List ℕ × List ℕ) → Blame
 from_stop x = record { why = x.0; stack = x.1.0; at = x.1.1 }
 
-stopped : (path : List ℕ) (s : Stop) → from_stop (stopped_at path s) ≡ blame_at path s
-stopped path (fault why at) = refl
-stopped path (undecided name at) = refl
-stopped path (below why stack at) = refl
-
 -- an evaluation that is refused stops so
 pub refused : {A : Type 0} (path : List ℕ) (o : Outcome A) (e : EvalFault) (b : Blame) → RefusesIn path o e → IsBlameOf e b → (s : Stop) × ((o ≡ bad s) × (b ≡ blame_at path s))
-refused path o (answer.Bad why stack at) b h g = (h.0, (h.1.0, g ∙ ap from_stop (sym h.1.1) ∙ stopped path h.0))
+refused path o (answer.Bad why stack at) b h g = (h.0, (h.1.0, g ∙ ap from_stop (sym h.1.1)))
 refused path o answer.NoMemory b h g = absurd g
 
 -- the first that is to blame

@@ -1,6 +1,6 @@
 -- What a path needs comes before it in the order of work.
 use Rattle.std.proofs.Common.{◌≡◌, ℕ, zero, suc, List, [], ◌∷◌, ◌++◌, Bool, true, false, not, ◌&&◌, ◌||◌, ◌⊎◌, inl, inr, Option, Some, None, Result, Ok, Err, refl, sym, ap, subst, ◌∙◌, true≢false, filter, map, fold, find}
-use Rattle.std.specs.Prelude.{⊤, cond, codes, is_some, nat_lt, length, ◌+◌, IfOk}
+use Rattle.std.specs.Prelude.{⊤, cond, codes, is_some, nat_lt, length, ◌+◌, IfOk, unwrap_or}
 use Rattle.std.specs.Cmp.{first_so, second_so}
 use Rattle.std.specs.List.{list_all}
 use Rattle.std.specs.Option.{option_map_or, option_and_then}
@@ -24,14 +24,14 @@ use Rattle.cf_graph.specs.Needs.{OrderFault, needs_of, is_made, is_next, ordered
 use Rattle.cf_tree.specs.Lists.{is_among}
 use Rattle.cf_desired.specs.Names.{path_in, pseudo_of}
 use Rattle.cf_desired.specs.Seeing.{Seen, own_ids, first_sights}
-use Rattle.cf_desired.specs.Shape.{put_name, in_order, has_stack_shape, first_later, Entering, StandsFor, PlanInProgress, Laying, Url, url, no_url, those, stood_for, first_stands, paths_below, paths_inside, paths_in, own_id, own_in, needed_by, unnamed_at, member_of, nesting_of, url_of, laid_within, entering_below, body_at, inside_of, progress_after, nested_before, step_before, work_along, body_in_order, verdicts_of, body_decided, body_bound, laid, given_root, root_of, shape_of}
+use Rattle.cf_desired.specs.Shape.{put_name, in_order, has_stack_shape, first_later, Entering, StandsFor, PlanInProgress, Laying, stood_for, first_stands, paths_below, paths_inside, paths_in, own_id, own_in, needed_by, unnamed_at, member_of, nesting_of, template_name_of, laid_within, entering_below, body_at, inside_of, progress_after, nested_before, step_before, work_along, body_in_order, verdicts_of, body_decided, body_bound, laid, given_root, root_of, shape_of}
 use Rattle.cf_desired.specs.Templates.{is_stack, accepted, template_named}
 use Rattle.cf_desired.specs.declared.flaw.Flaw.{Flaw}
 use Rattle.cf_desired.specs.declared.flaw.Flaw.TheVariants as flaw
 use Rattle.cf_desired.proofs.OrderNeeds.{made_names, HasNeeds, AllNeeds, order_needs, is_needed, among_first, among_second, either_so}
 use Rattle.cf_desired.proofs.Puts.{among_pass, value_put}
 use Rattle.cf_desired.specs.ComeFirst.{ComeFirst, NeedsComeFirst}
-use Rattle.cf_eval.specs.Env.{conditions_of}
+use Rattle.cf_eval.specs.Conditions.{conditions_of}
 use Rattle.cf_desired.specs.Given.{Given, given_in, settings_for}
 use Rattle.cf_eval.specs.Outcome.{Outcome, got, later, bad}
 use Rattle.cf_eval.specs.Scope.{Scope}
@@ -223,9 +223,9 @@ module _ (lay : Option Laying) (source : Source) (seen : Seen) (lays : LaysFirst
     either false true = none_within before
     either false false = h (entering_below e n r t) g (templates + 1) (members + length t.resources) before k s
 
-  url_first : (e : Entering) (n : Nesting) (r : Res) (templates members : ℕ) (g : Given) (u : Url) (before : List (List ℕ)) → In before n.needs → BodyWithin before (body_at lay source e n r templates members g u)
-  url_first e n r templates members g (no_url f) before k = none_within before
-  url_first e n r templates members g (url name) before k =
+  name_first : (e : Entering) (n : Nesting) (r : Res) (templates members : ℕ) (g : Given) (u : Result (List ℕ) Flaw) (before : List (List ℕ)) → In before n.needs → BodyWithin before (body_at lay source e n r templates members g u)
+  name_first e n r templates members g (Err f) before k = none_within before
+  name_first e n r templates members g (Ok name) before k =
       laid_first lay lays n.path name templates members (template_named name source) (if_ordered name source) e n r g before k
 
   inside_first : (e : Entering) (s : Scope) (c : PlanInProgress) (n : Nesting) (r : Res) (o : Option Flaw) (before : List (List ℕ)) → In before n.needs
@@ -233,23 +233,23 @@ module _ (lay : Option Laying) (source : Source) (seen : Seen) (lays : LaysFirst
   inside_first e s c n r (Some f) before k = none_within before
   inside_first e s c n r None before k = either (has_stack_shape r) where
     either : (b : Bool)
-        → Within before (resources_inside (cond b (inside.given_by (value_at (codes "Parameters") r.props) (body_at lay source e n r c.templates c.members (given_in s (value_at (codes "Parameters") r.props)) (url_of e.stack.path n.path s r))) (shut (flaw.Shape n.path))))
-        (paths_inside (cond b (inside.given_by (value_at (codes "Parameters") r.props) (body_at lay source e n r c.templates c.members (given_in s (value_at (codes "Parameters") r.props)) (url_of e.stack.path n.path s r))) (shut (flaw.Shape n.path))))
-    either true = url_first e n r c.templates c.members (given_in s (value_at (codes "Parameters") r.props)) (url_of e.stack.path n.path s r) before k
+        → Within before (resources_inside (cond b (inside.given_by (value_at (codes "Parameters") r.props) (body_at lay source e n r c.templates c.members (given_in s (value_at (codes "Parameters") r.props)) (template_name_of e.stack.path n.path s r))) (shut (flaw.Shape n.path))))
+        (paths_inside (cond b (inside.given_by (value_at (codes "Parameters") r.props) (body_at lay source e n r c.templates c.members (given_in s (value_at (codes "Parameters") r.props)) (template_name_of e.stack.path n.path s r))) (shut (flaw.Shape n.path))))
+    either true = name_first e n r c.templates c.members (given_in s (value_at (codes "Parameters") r.props)) (template_name_of e.stack.path n.path s r) before k
     either false = none_within before
 
   module _ (e : Entering) (conds : Verdicts) (over : Scoping) where
     -- what has come
     pub record Come (before placed : List (List ℕ)) (stands : StandsFor) : Type 0 where
       pub around : In before e.needs
-      pub come : (id : List ℕ) → is_among id placed ≡ true → In before (those (value_at id stands))
-      pub alone : (id : List ℕ) → In before (those (value_at id stands)) ⊎ In (path_in e.stack.path id ∷ []) (those (value_at id stands))
+      pub come : (id : List ℕ) → is_among id placed ≡ true → In before (unwrap_or (value_at id stands) [])
+      pub alone : (id : List ℕ) → In before (unwrap_or (value_at id stands) []) ⊎ In (path_in e.stack.path id ∷ []) (unwrap_or (value_at id stands) [])
       pub made : (id : List ℕ) → (value_at id stands ≡ None) ⊎ (is_among id (made_names e.stack.template conds e.stack.template.resources) ≡ true)
 
-    stood_in : (before : List (List ℕ)) (stands : StandsFor) (ids : List (List ℕ)) → ((id : List ℕ) → is_among id ids ≡ true → In before (those (value_at id stands))) → In before (stood_for stands ids)
+    stood_in : (before : List (List ℕ)) (stands : StandsFor) (ids : List (List ℕ)) → ((id : List ℕ) → is_among id ids ≡ true → In before (unwrap_or (value_at id stands) [])) → In before (stood_for stands ids)
     stood_in before stands [] h = in_none before
     stood_in before stands (k ∷ ids) h =
-        in_both before (those (value_at k stands)) (stood_for stands ids) (h k (ap (λ b. b || is_among k ids) ((bytes_eq-Decides k k).1 refl)))
+        in_both before (unwrap_or (value_at k stands) []) (stood_for stands ids) (h k (ap (λ b. b || is_among k ids) ((bytes_eq-Decides k k).1 refl)))
         (stood_in before stands ids (λ id g. h id (either_so (bytes_eq id k) _ g)))
 
     needed_in : (before placed : List (List ℕ)) (stands : StandsFor) (m : List ℕ × List (List ℕ)) (r : Res) → Come before placed stands → HasNeeds e.stack.template conds m
@@ -258,8 +258,8 @@ module _ (lay : Option Laying) (source : Source) (seen : Seen) (lays : LaysFirst
         order_in before (stood_for stands (referred_to e.stack.template conds r) ++ e.needs)
         (in_both before (stood_for stands (referred_to e.stack.template conds r)) e.needs (stood_in before stands (referred_to e.stack.template conds r) (λ id g. either id g (c.made id))) c.around) where
           either : (id : List ℕ) → is_among id (referred_to e.stack.template conds r) ≡ true → (value_at id stands ≡ None) ⊎ (is_among id (made_names e.stack.template conds e.stack.template.resources) ≡ true)
-              → In before (those (value_at id stands))
-          either id g (inl none) = subst (λ o. In before (those o)) (sym none) (in_none before)
+              → In before (unwrap_or (value_at id stands) [])
+          either id g (inl none) = subst (λ o. In before (unwrap_or o [])) (sym none) (in_none before)
           either id g (inr made) = c.come id (k id (subst (λ ns. is_among id ns ≡ true) (sym (h.1 r q)) (is_needed e.stack.template conds id r g made)))
 
     come_plain : (before placed : List (List ℕ)) (stands : StandsFor) (k : List ℕ) → Come before placed stands → Come (before ++ path_in e.stack.path k ∷ []) (placed ++ k ∷ []) stands
@@ -269,39 +269,39 @@ module _ (lay : Option Laying) (source : Source) (seen : Seen) (lays : LaysFirst
       alone = λ id. more id (c.alone id);
       made = c.made;
     } where
-      more : (id : List ℕ) → In before (those (value_at id stands)) ⊎ In (path_in e.stack.path id ∷ []) (those (value_at id stands))
-          → In (before ++ path_in e.stack.path k ∷ []) (those (value_at id stands)) ⊎ In (path_in e.stack.path id ∷ []) (those (value_at id stands))
-      more id (inl h) = inl (in_more before (path_in e.stack.path k ∷ []) (those (value_at id stands)) h)
+      more : (id : List ℕ) → In before (unwrap_or (value_at id stands) []) ⊎ In (path_in e.stack.path id ∷ []) (unwrap_or (value_at id stands) [])
+          → In (before ++ path_in e.stack.path k ∷ []) (unwrap_or (value_at id stands) []) ⊎ In (path_in e.stack.path id ∷ []) (unwrap_or (value_at id stands) [])
+      more id (inl h) = inl (in_more before (path_in e.stack.path k ∷ []) (unwrap_or (value_at id stands) []) h)
       more id (inr h) = inr h
 
-      own : In before (those (value_at k stands)) ⊎ In (path_in e.stack.path k ∷ []) (those (value_at k stands)) → In (before ++ path_in e.stack.path k ∷ []) (those (value_at k stands))
-      own (inl h) q g = in_more before (path_in e.stack.path k ∷ []) (those (value_at k stands)) h q g
+      own : In before (unwrap_or (value_at k stands) []) ⊎ In (path_in e.stack.path k ∷ []) (unwrap_or (value_at k stands) []) → In (before ++ path_in e.stack.path k ∷ []) (unwrap_or (value_at k stands) [])
+      own (inl h) q g = in_more before (path_in e.stack.path k ∷ []) (unwrap_or (value_at k stands) []) h q g
       own (inr h) q g = among_second q before (path_in e.stack.path k ∷ []) (h q g)
 
-      either : (id : List ℕ) → (is_among id placed ≡ true) ⊎ (is_among id (k ∷ []) ≡ true) → In (before ++ path_in e.stack.path k ∷ []) (those (value_at id stands))
-      either id (inl h) = in_more before (path_in e.stack.path k ∷ []) (those (value_at id stands)) (c.come id h)
-      either id (inr h) = subst (λ i. In (before ++ path_in e.stack.path k ∷ []) (those (value_at i stands))) (sym (one_in id k h)) (own (c.alone k))
+      either : (id : List ℕ) → (is_among id placed ≡ true) ⊎ (is_among id (k ∷ []) ≡ true) → In (before ++ path_in e.stack.path k ∷ []) (unwrap_or (value_at id stands) [])
+      either id (inl h) = in_more before (path_in e.stack.path k ∷ []) (unwrap_or (value_at id stands) []) (c.come id h)
+      either id (inr h) = subst (λ i. In (before ++ path_in e.stack.path k ∷ []) (unwrap_or (value_at i stands) [])) (sym (one_in id k h)) (own (c.alone k))
 
     come_nested : (before more placed : List (List ℕ)) (stands : StandsFor) (k : List ℕ) (ps : List (List ℕ)) → In (before ++ more) ps → is_among k (made_names e.stack.template conds e.stack.template.resources) ≡ true
         → Come before placed stands → Come (before ++ more) (placed ++ k ∷ []) (put k ps stands)
     come_nested before more placed stands k ps within made c = record {
       around = in_more before more e.needs c.around;
-      come = λ id g. subst (λ o. In (before ++ more) (those o)) (sym (value_put id k ps stands)) (come_by id (bytes_eq id k) refl (among_split id placed (k ∷ []) g));
+      come = λ id g. subst (λ o. In (before ++ more) (unwrap_or o [])) (sym (value_put id k ps stands)) (come_by id (bytes_eq id k) refl (among_split id placed (k ∷ []) g));
       alone = λ id. alone_by id (bytes_eq id k) refl (c.alone id);
       made = λ id. subst (λ o. (o ≡ None) ⊎ (is_among id (made_names e.stack.template conds e.stack.template.resources) ≡ true)) (sym (value_put id k ps stands)) (made_by id (bytes_eq id k) refl (c.made id));
     } where
-      come_by : (id : List ℕ) (b : Bool) → bytes_eq id k ≡ b → (is_among id placed ≡ true) ⊎ (is_among id (k ∷ []) ≡ true) → In (before ++ more) (those (cond b (Some ps) (value_at id stands)))
+      come_by : (id : List ℕ) (b : Bool) → bytes_eq id k ≡ b → (is_among id placed ≡ true) ⊎ (is_among id (k ∷ []) ≡ true) → In (before ++ more) (unwrap_or (cond b (Some ps) (value_at id stands)) [])
       come_by id true d g = within
-      come_by id false d (inl g) = in_more before more (those (value_at id stands)) (c.come id g)
+      come_by id false d (inl g) = in_more before more (unwrap_or (value_at id stands) []) (c.come id g)
       come_by id false d (inr g) = absurd (true≢false (sym ((bytes_eq-Decides id k).1 (one_in id k g)) ∙ d))
 
-      alone_by : (id : List ℕ) (b : Bool) → bytes_eq id k ≡ b → In before (those (value_at id stands)) ⊎ In (path_in e.stack.path id ∷ []) (those (value_at id stands))
-          → In (before ++ more) (those (value_at id (put k ps stands))) ⊎ In (path_in e.stack.path id ∷ []) (those (value_at id (put k ps stands)))
-      alone_by id true d g = inl (subst (λ o. In (before ++ more) (those o)) (sym (value_put id k ps stands ∙ ap (λ b. cond b (Some ps) (value_at id stands)) d)) within)
+      alone_by : (id : List ℕ) (b : Bool) → bytes_eq id k ≡ b → In before (unwrap_or (value_at id stands) []) ⊎ In (path_in e.stack.path id ∷ []) (unwrap_or (value_at id stands) [])
+          → In (before ++ more) (unwrap_or (value_at id (put k ps stands)) []) ⊎ In (path_in e.stack.path id ∷ []) (unwrap_or (value_at id (put k ps stands)) [])
+      alone_by id true d g = inl (subst (λ o. In (before ++ more) (unwrap_or o [])) (sym (value_put id k ps stands ∙ ap (λ b. cond b (Some ps) (value_at id stands)) d)) within)
       alone_by id false d (inl g) =
-          inl (subst (λ o. In (before ++ more) (those o)) (sym (value_put id k ps stands ∙ ap (λ b. cond b (Some ps) (value_at id stands)) d)) (in_more before more (those (value_at id stands)) g))
+          inl (subst (λ o. In (before ++ more) (unwrap_or o [])) (sym (value_put id k ps stands ∙ ap (λ b. cond b (Some ps) (value_at id stands)) d)) (in_more before more (unwrap_or (value_at id stands) []) g))
       alone_by id false d (inr g) =
-          inr (subst (λ o. In (path_in e.stack.path id ∷ []) (those o)) (sym (value_put id k ps stands ∙ ap (λ b. cond b (Some ps) (value_at id stands)) d)) g)
+          inr (subst (λ o. In (path_in e.stack.path id ∷ []) (unwrap_or o [])) (sym (value_put id k ps stands ∙ ap (λ b. cond b (Some ps) (value_at id stands)) d)) g)
 
       made_by : (id : List ℕ) (b : Bool) → bytes_eq id k ≡ b → (value_at id stands ≡ None) ⊎ (is_among id (made_names e.stack.template conds e.stack.template.resources) ≡ true)
           → (cond b (Some ps) (value_at id stands) ≡ None) ⊎ (is_among id (made_names e.stack.template conds e.stack.template.resources) ≡ true)
@@ -370,11 +370,11 @@ module _ (lay : Option Laying) (source : Source) (seen : Seen) (lays : LaysFirst
           by_name (Some r) q ih = by_kind r q (is_stack r) ih
 
     -- at first each id stands for its own path
-    first_alone : (id : List ℕ) (ids : List (List ℕ)) → In (path_in e.stack.path id ∷ []) (those (value_at id (first_stands e.stack ids)))
+    first_alone : (id : List ℕ) (ids : List (List ℕ)) → In (path_in e.stack.path id ∷ []) (unwrap_or (value_at id (first_stands e.stack ids)) [])
     first_alone id [] = in_none (path_in e.stack.path id ∷ [])
     first_alone id (k ∷ ids) = by_name (bytes_eq id k) refl (first_alone id ids) where
-      by_name : (b : Bool) → bytes_eq id k ≡ b → In (path_in e.stack.path id ∷ []) (those (value_at id (first_stands e.stack ids)))
-          → In (path_in e.stack.path id ∷ []) (those (cond b (Some (path_in e.stack.path k ∷ [])) (value_at id (first_stands e.stack ids))))
+      by_name : (b : Bool) → bytes_eq id k ≡ b → In (path_in e.stack.path id ∷ []) (unwrap_or (value_at id (first_stands e.stack ids)) [])
+          → In (path_in e.stack.path id ∷ []) (unwrap_or (cond b (Some (path_in e.stack.path k ∷ [])) (value_at id (first_stands e.stack ids))) [])
       by_name true q ih = subst (λ i. In (path_in e.stack.path i ∷ []) (path_in e.stack.path k ∷ [])) (sym ((bytes_eq-Decides id k).0 q)) (λ p g. g)
       by_name false q ih = ih
 

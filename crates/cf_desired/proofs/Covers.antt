@@ -1,6 +1,6 @@
 -- A shape covers what it mentions: what a resource, or what a nested stack is given, mentions stands for paths that it needs.
 use Rattle.std.proofs.Common.{◌≡◌, ℕ, List, [], ◌∷◌, ◌++◌, Bool, true, false, not, ◌||◌, Option, Some, None, Result, Ok, Err, refl, sym, ap, subst, ◌∙◌, true≢false, filter, filter_map, zero, suc}
-use Rattle.std.specs.Prelude.{⊤, cond, codes, nat_lt, length, ◌+◌}
+use Rattle.std.specs.Prelude.{⊤, cond, codes, nat_lt, length, ◌+◌, unwrap_or}
 use Rattle.std.specs.List.{cons_option}
 use Rattle.std.specs.Option.{option_map_or}
 use Rattle.std.specs.Str.{bytes_eq}
@@ -17,11 +17,11 @@ use Rattle.cf_tree.specs.Lists.{is_among}
 use Rattle.cf_desired.specs.Names.{pseudo_of}
 use Rattle.cf_desired.specs.Seeing.{Seen, own_ids, first_sights}
 use Rattle.cf_desired.specs.Templates.{is_stack, template_named}
-use Rattle.cf_desired.specs.Shape.{has_stack_shape, verdict_from, first_later, Entering, StandsFor, PlanInProgress, Laying, Url, url, no_url, those, stood_for, first_stands, paths_inside, own_id, own_in, needed_by, unnamed_at, member_of, nesting_of, url_of, laid_within, entering_below, body_at, inside_of, nested_before, step_before, work_along, body_in_order, verdicts_of, body_decided, body_bound, laid, given_root, root_of, shape_of}
+use Rattle.cf_desired.specs.Shape.{has_stack_shape, verdict_from, first_later, Entering, StandsFor, PlanInProgress, Laying, stood_for, first_stands, paths_inside, own_id, own_in, needed_by, unnamed_at, member_of, nesting_of, template_name_of, laid_within, entering_below, body_at, inside_of, nested_before, step_before, work_along, body_in_order, verdicts_of, body_decided, body_bound, laid, given_root, root_of, shape_of}
 use Rattle.cf_desired.specs.declared.flaw.Flaw.{Flaw}
 use Rattle.cf_desired.specs.declared.flaw.Flaw.TheVariants as flaw
 use Rattle.cf_desired.proofs.OrderNeeds.{among_order, among_first, among_second, either_so}
-use Rattle.cf_eval.specs.Env.{conditions_of}
+use Rattle.cf_eval.specs.Conditions.{conditions_of}
 use Rattle.cf_eval.specs.Outcome.{Outcome, got, later, bad}
 use Rattle.cf_desired.specs.Given.{Given, given_in, settings_for}
 use Rattle.cf_eval.specs.Scope.{Scope}
@@ -34,8 +34,8 @@ abbrev pub In : List (List ℕ) → List (List ℕ) → Type 0
 In all ps = (q : List ℕ) → is_among q ps ≡ true → is_among q all ≡ true
 
 abbrev pub CoversMention : Template → List (List ℕ) → StandsFor → Mention → Type 0
-CoversMention t needs stands (by_ref name) = is_parameter name t ≡ false → In needs (those (value_at name stands))
-CoversMention t needs stands (by_attribute name) = In needs (those (value_at name stands))
+CoversMention t needs stands (by_ref name) = is_parameter name t ≡ false → In needs (unwrap_or (value_at name stands) [])
+CoversMention t needs stands (by_attribute name) = In needs (unwrap_or (value_at name stands) [])
 
 abbrev pub CoversAll : Template → List (List ℕ) → StandsFor → List Mention → Type 0
 CoversAll t needs stands [] = ⊤
@@ -70,13 +70,13 @@ same_name : (k : List ℕ) → bytes_eq k k ≡ true
 same_name k = (bytes_eq-Decides k k).1 refl
 
 -- what ids stand for is among what they all stand for
-pub stood : (stands : StandsFor) (id : List ℕ) (ids : List (List ℕ)) → is_among id ids ≡ true → In (stood_for stands ids) (those (value_at id stands))
+pub stood : (stands : StandsFor) (id : List ℕ) (ids : List (List ℕ)) → is_among id ids ≡ true → In (stood_for stands ids) (unwrap_or (value_at id stands) [])
 stood stands id [] h q g = absurd (true≢false (sym h))
 stood stands id (x ∷ ids) h q g = by_name (bytes_eq id x) refl h (λ k. stood stands id ids k q g) where
   by_name : (t : Bool) → bytes_eq id x ≡ t → (t || is_among id ids) ≡ true → (is_among id ids ≡ true → is_among q (stood_for stands ids) ≡ true) → is_among q (stood_for stands (x ∷ ids)) ≡ true
   by_name true e k ih =
-      among_first q (those (value_at x stands)) (stood_for stands ids) (subst (λ y. is_among q (those (value_at y stands)) ≡ true) ((bytes_eq-Decides id x).0 e) g)
-  by_name false e k ih = among_second q (those (value_at x stands)) (stood_for stands ids) (ih k)
+      among_first q (unwrap_or (value_at x stands) []) (stood_for stands ids) (subst (λ y. is_among q (unwrap_or (value_at y stands) []) ≡ true) ((bytes_eq-Decides id x).0 e) g)
+  by_name false e k ih = among_second q (unwrap_or (value_at x stands) []) (stood_for stands ids) (ih k)
 
 module _ (e : Entering) (conds : Verdicts) (stands : StandsFor) (r : Res) where
   abbrev ids : List (List ℕ)
@@ -85,7 +85,7 @@ module _ (e : Entering) (conds : Verdicts) (stands : StandsFor) (r : Res) where
   needs_around : In (needed_by e conds stands r) e.needs
   needs_around q h = among_order q (stood_for stands ids ++ e.needs) (among_second q (stood_for stands ids) e.needs h)
 
-  needs_named : (id : List ℕ) → is_among id ids ≡ true → In (needed_by e conds stands r) (those (value_at id stands))
+  needs_named : (id : List ℕ) → is_among id ids ≡ true → In (needed_by e conds stands r) (unwrap_or (value_at id stands) [])
   needs_named id h q g = among_order q (stood_for stands ids ++ e.needs) (among_first q (stood_for stands ids) e.needs (stood stands id ids h q g))
 
   -- each of these mentions, where all names that they mean are referred to
@@ -210,9 +210,9 @@ module _ (lay : Option Laying) (source : Source) (seen : Seen) (lays : LaysCover
         either false true = tt
         either false false = subst (λ ns. CoversBody ns (l (entering t) g (templates + 1) (members + length t.resources))) (n t) (h (entering t) g (templates + 1) (members + length t.resources))
 
-  url_covered : (e : Entering) (n : Nesting) (r : Res) (templates members : ℕ) (g : Given) (u : Url) → CoversBody n.needs (body_at lay source e n r templates members g u)
-  url_covered e n r templates members g (no_url f) = tt
-  url_covered e n r templates members g (url name) =
+  name_covered : (e : Entering) (n : Nesting) (r : Res) (templates members : ℕ) (g : Given) (u : Result (List ℕ) Flaw) → CoversBody n.needs (body_at lay source e n r templates members g u)
+  name_covered e n r templates members g (Err f) = tt
+  name_covered e n r templates members g (Ok name) =
       within_covered lay lays n.path name templates members (template_named name source) (entering_below e n r) n.needs (λ x. refl) g
 
   module _ (e : Entering) (conds : Verdicts) (over : Scoping) where
@@ -228,11 +228,11 @@ module _ (lay : Option Laying) (source : Source) (seen : Seen) (lays : LaysCover
 
       either : (b : Bool)
           → CoversInside e.stack.template conds (needed_by e conds c.stands r) c.stands
-          (cond b (inside.given_by (value_at (codes "Parameters") r.props) (body_at lay source e (nesting_of e conds c.stands r) r c.templates c.members (given_in s (value_at (codes "Parameters") r.props)) (url_of e.stack.path (nesting_of e conds c.stands r).path s r))) (shut (flaw.Shape (nesting_of e conds c.stands r).path)))
+          (cond b (inside.given_by (value_at (codes "Parameters") r.props) (body_at lay source e (nesting_of e conds c.stands r) r c.templates c.members (given_in s (value_at (codes "Parameters") r.props)) (template_name_of e.stack.path (nesting_of e conds c.stands r).path s r))) (shut (flaw.Shape (nesting_of e conds c.stands r).path)))
       either true = (
         form_covered e.stack.template conds (needed_by e conds c.stands r) c.stands r.kind (value_at (codes "Parameters") r.props)
             (parameters_covered e.stack.template (needed_by e conds c.stands r) c.stands (holds_in conds) r.kind r.props (covers_evaluated e conds c.stands r)),
-        url_covered e (nesting_of e conds c.stands r) r c.templates c.members _ (url_of e.stack.path (nesting_of e conds c.stands r).path s r),
+        name_covered e (nesting_of e conds c.stands r) r c.templates c.members _ (template_name_of e.stack.path (nesting_of e conds c.stands r).path s r),
       )
       either false = tt
 

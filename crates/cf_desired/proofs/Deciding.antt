@@ -9,12 +9,11 @@ use Rattle.cf_tree.specs.Tests.{Test, TestNode, Tests, equals, negation, all_of,
 use Rattle.cf_tree.specs.declared.template.Template.{Template}
 use Rattle.cf_eval.specs.declared.fault.EvalWhy.TheVariants.{UnknownName, CircularCondition}
 use Rattle.cf_desired.specs.Shape.{first_later}
-use Rattle.cf_eval.specs.Conditions.{equal_values, test_found, test_node_found, tests_found, decided_by, condition_found, noted_verdict, verdict_found, conditions_found}
-use Rattle.cf_eval.specs.Env.{scope_within, conditions_of, plain}
+use Rattle.cf_eval.specs.Conditions.{equal_values, test_found, test_node_found, tests_found, decided_by, condition_found, noted_verdict, verdict_found, conditions_found, scope_within, conditions_of}
 use Rattle.cf_eval.specs.Functions.{or_fault}
 use Rattle.cf_desired.specs.Given.{Given, settings_for}
 use Rattle.cf_eval.specs.Knows.{KnowsMore}
-use Rattle.cf_eval.specs.Outcome.{Outcome, fault, undecided, below, got, later, bad, on_got, both, each, or_wrong}
+use Rattle.cf_eval.specs.Outcome.{Outcome, fault, undecided, below, got, later, bad, on_got, both, each, or_wrong, undeclared_at_fault}
 use Rattle.cf_eval.specs.Scope.{Scope}
 use Rattle.cf_desired.proofs.Keeping.{GivenKeeps, settings_keep}
 use Rattle.cf_eval.proofs.Knowing.{Stands, itself, stands_on, stands_both, StandAll, stands_each, form_value_stands as form_stands}
@@ -75,7 +74,7 @@ module _ (s t : Scope) (k : KnowsMore s t) (conds : List (List ℕ × Test)) whe
       verdict_and c.0 (condition_found (length conds) s conds [] (place_of_test c.1) c.0) (condition_found (length conds) t conds [] (place_of_test c.1) c.0)
       (condition_stands (length conds) s t k conds [] (place_of_test c.1) c.0) (each (map (verdict_found s conds) cs)) (each (map (verdict_found t conds) cs)) (all_stand cs) vs q l
 
-plain_got : {A : Type 0} (x : Outcome A) (v : A) → plain x ≡ got v → x ≡ got v
+plain_got : {A : Type 0} (x : Outcome A) (v : A) → undeclared_at_fault x ≡ got v → x ≡ got v
 plain_got (got a) v h = h
 plain_got later v h = h
 plain_got (bad (fault why at)) v h = h
@@ -85,6 +84,6 @@ plain_got (bad (below why stack at)) v h = h
 pub conditions_stay : (t : Template) (g h : Given) → GivenKeeps g h → (pseudo : List (List ℕ × Data)) (vs : List (List ℕ × Option Bool))
     → conditions_of t (settings_for t.params g) pseudo ≡ got vs → first_later vs ≡ None → conditions_of t (settings_for t.params h) pseudo ≡ got vs
 conditions_stay t g h k pseudo vs q l =
-    ap plain (all_stand (scope_within t (settings_for t.params g) pseudo) (scope_within t (settings_for t.params h) pseudo)
+    ap undeclared_at_fault (all_stand (scope_within t (settings_for t.params g) pseudo) (scope_within t (settings_for t.params h) pseudo)
     (record { params = λ name. settings_keep g h k name t.params; mapping = λ name. refl; pseudo = refl; decided = λ at name. tt; beyond = refl })
     t.conds t.conds vs (plain_got (conditions_found (scope_within t (settings_for t.params g) pseudo) t.conds) vs q) l)

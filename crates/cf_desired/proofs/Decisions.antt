@@ -10,10 +10,10 @@ use Rattle.cf_desired.proofs.ComeFirst.{IfOrdered, if_ordered}
 use Rattle.cf_eval.specs.declared.fault.EvalFault.{EvalFault}
 use Rattle.cf_eval.specs.Env.{RefusesIn}
 use Rattle.cf_eval.specs.Outcome.{Outcome, got, later, bad}
-use Rattle.cf_desired.specs.declared.told.Blame.{Blame}
+use Rattle.cf_desired.specs.declared.evaluations.Blame.{Blame}
 use Rattle.cf_desired.specs.Kept.{IsBlameOf, flaw_of_blame}
-use Rattle.cf_desired.proofs.Blames.{flaw_blamed, refused}
-use Rattle.cf_eval.specs.ScopeOf.{verdict_of}
+use Rattle.cf_desired.proofs.Blames.{refused}
+use Rattle.cf_eval.specs.Scope.{verdict_of}
 use Rattle.cf_graph.specs.Needs.{OrderFault, needs_of}
 use Rattle.cf_desired.specs.declared.flaw.Flaw.{Flaw}
 use Rattle.cf_desired.specs.declared.flaw.Flaw.TheVariants as flaw
@@ -67,4 +67,4 @@ undelayed t conds h =
 pub stopped_decision : (t : Stack) (o : Outcome (List (List ℕ × Option Bool))) (e : EvalFault) (b : Blame) → RefusesIn t.path o e → IsBlameOf e b → Err (flaw_of_blame b) ≡ decision_of t o
 stopped_decision t o e b h g =
     let s = refused t.path o e b h g in
-    ap (λ (x : Blame). Err (flaw_of_blame x)) s.1.1 ∙ ap (λ (f : Flaw). Err f) (flaw_blamed t.path s.0) ∙ sym (ap (decision_of t) s.1.0)
+    ap (λ (x : Blame). Err (flaw_of_blame x)) s.1.1 ∙ sym (ap (decision_of t) s.1.0)

@@ -10,7 +10,6 @@ use Rattle.cf_tree.specs.declared.source.Source.{Source}
 use Rattle.cf_tree.specs.declared.template.Out.{Out}
 use Rattle.cf_tree.specs.declared.template.Param.{Param}
 use Rattle.cf_eval.specs.Knows.{StaysKnown, KeepsSetting, KnowsMore, KeepsOutput, KeepsSight, KeepsOutcome}
-use Rattle.cf_eval.specs.ScopeOf.{setting_of}
 use Rattle.cf_param.specs.Binding.{bound_to}
 use Rattle.cf_param.specs.declared.offered.Piece.{Piece}
 use Rattle.cf_param.specs.declared.offered.Piece.TheVariants as piece
@@ -22,16 +21,15 @@ use Rattle.cf_desired.specs.Given.{Given, Offered, Offers, offers_in, node_offer
 use Rattle.cf_eval.specs.Outcome.{Outcome, Stop, fault, undecided, below, got, later, bad, on_got}
 use Rattle.cf_eval.specs.declared.env.OutputSight.{OutputSight}
 use Rattle.cf_eval.specs.declared.env.OutputSight.TheVariants as output
-use Rattle.cf_eval.specs.Scope.{Scope}
+use Rattle.cf_eval.specs.Scope.{Scope, setting_of}
 use Rattle.cf_eval.specs.declared.env.Sight.{Sight}
 use Rattle.cf_eval.specs.declared.env.Sight.TheVariants as sight
 use Rattle.cf_desired.specs.Stack.{Stack, Verdicts, Sights, Scoping, scoping, stop_in}
-use Rattle.cf_eval.specs.Env.{plain}
 use Rattle.cf_eval.specs.Texts.{Found, wanted_text}
-use Rattle.cf_eval.specs.Value.{form_found, blamed}
+use Rattle.cf_eval.specs.Value.{blamed, value_within}
 use Rattle.cf_desired.specs.Work.{Member, Nesting, Work, Inside, Body, no_work, resource, nested, shut, barred, halted, opened}
 use Rattle.cf_desired.specs.Work as inside
-use Rattle.cf_eval.proofs.Knowing.{Stands, itself, stands_on, form_value_stands as form_stands, plain_stands, plain_value_stands as value_stands}
+use Rattle.cf_eval.proofs.Knowing.{Stands, itself, stands_on, form_value_stands as form_stands, undeclared_stands, value_stands}
 
 outcome_self : {A : Type 0} (o : Outcome A) → KeepsOutcome o o
 outcome_self (got a) = refl
@@ -61,11 +59,11 @@ offers_self (bad w) = tt
 module _ (s t : Scope) (k : KnowsMore s t) where
   fields_aligned : (around : Option (List ℕ)) (fs : Fields) → Aligned (offered_fields s around fs) (offered_fields t around fs)
   fields_aligned around no_fields = tt
-  fields_aligned around (field n e fs) = (refl, (plain_stands _ _ (form_stands s t k around e), fields_aligned around fs))
+  fields_aligned around (field n e fs) = (refl, (undeclared_stands _ _ (form_stands s t k around e), fields_aligned around fs))
 
   by_value : (around : Option (List ℕ)) (at : List ℕ) (x : Node)
-      → OffersKeep (on_got (plain (form_found s around (expr at x))) (map_wanted (blamed around at x))) (on_got (plain (form_found t around (expr at x))) (map_wanted (blamed around at x)))
-  by_value around at x = either (plain (form_found s around (expr at x))) _ (plain_stands _ _ (form_stands s t k around (expr at x))) where
+      → OffersKeep (on_got (value_within s around (expr at x)) (map_wanted (blamed around at x))) (on_got (value_within t around (expr at x)) (map_wanted (blamed around at x)))
+  by_value around at x = either (value_within s around (expr at x)) _ (undeclared_stands _ _ (form_stands s t k around (expr at x))) where
     either : (f h : Found) → Stands false f h → OffersKeep (on_got f (map_wanted (blamed around at x))) (on_got h (map_wanted (blamed around at x)))
     either (got o) h g = subst (λ z. OffersKeep (map_wanted (blamed around at x) o) (on_got z (map_wanted (blamed around at x)))) (sym g) (offers_self (map_wanted (blamed around at x) o))
     either later h g = tt
@@ -247,16 +245,11 @@ module _ (source : Source) (a b : Seen) (more : SeesMore a b) where
 
     one_kept : (at : Stack) (conds : Verdicts) (o : Out) → KeepsOutput (Some (output_sight at conds s o)) (Some (output_sight at conds t o))
     one_kept at conds o = by_made (is_output_made conds o) where
-      broken : (w : Stop) (z : Option OutputSight) → KeepsOutput (Some (broken_at at.path w)) z
-      broken (fault why place) z = tt
-      broken (undecided name place) z = tt
-      broken (below why stack place) z = tt
-
       by_text : (x y : Outcome (List ℕ)) → Stands false x y
           → KeepsOutput (Some (option_map_or (broken_at at.path) (stop_in x) (output.Made (text_known x)))) (Some (option_map_or (broken_at at.path) (stop_in y) (output.Made (text_known y))))
       by_text (got v) y g = ap (λ z. Some (option_map_or (broken_at at.path) (stop_in z) (output.Made (text_known z)))) g
       by_text later y g = tt
-      by_text (bad w) y g = broken w _
+      by_text (bad w) y g = tt
 
       by_export : (e f : Option Stop) → (e ≡ None → f ≡ None)
           → KeepsOutput (Some (option_map_or (broken_at at.path) (option_or e (stop_in (text_in s o.value))) (output.Made (text_known (text_in s o.value)))))
@@ -265,13 +258,13 @@ module _ (source : Source) (a b : Seen) (more : SeesMore a b) where
           subst (λ z. KeepsOutput (Some (option_map_or (broken_at at.path) (stop_in (text_in s o.value)) (output.Made (text_known (text_in s o.value)))))
           (Some (option_map_or (broken_at at.path) (option_or z (stop_in (text_in t o.value))) (output.Made (text_known (text_in t o.value)))))) (sym (h refl))
           (by_text (text_in s o.value) (text_in t o.value) (text_stands o.value))
-      by_export (Some w) f h = broken w _
+      by_export (Some w) f h = tt
 
       by_name : (u : Option Stop)
           → KeepsOutput (Some (option_map_or (broken_at at.path) (option_or u (option_or (export_stop s o.export) (stop_in (text_in s o.value)))) (output.Made (text_known (text_in s o.value)))))
           (Some (option_map_or (broken_at at.path) (option_or u (option_or (export_stop t o.export) (stop_in (text_in t o.value)))) (output.Made (text_known (text_in t o.value)))))
       by_name None = by_export (export_stop s o.export) (export_stop t o.export) (export_kept o.export)
-      by_name (Some w) = broken w _
+      by_name (Some w) = tt
 
       by_made : (m : Bool)
           → KeepsOutput (Some (cond m (option_map_or (broken_at at.path) (output_stop conds s o) (output.Made (text_known (text_in s o.value)))) output.NotMade))

@@ -1,5 +1,5 @@
 -- Seeing more keeps what was known: properties that are all known, and values of outputs.
-use Rattle.std.proofs.Common.{◌≡◌, ℕ, List, [], ◌∷◌, ◌++◌, Bool, true, false, Option, Some, None, refl, sym, ap, subst, filter, find, map, option_map}
+use Rattle.std.proofs.Common.{◌≡◌, ℕ, List, [], ◌∷◌, ◌++◌, Bool, true, false, Option, Some, None, refl, sym, ap, subst, filter, find, map, option_map, Ok, Err}
 use Rattle.std.specs.Prelude.{⊤, cond}
 use Rattle.std.specs.Option.{option_and_then}
 use Rattle.std.specs.Str.{bytes_eq}
@@ -21,12 +21,13 @@ use Rattle.cf_desired.specs.Met.{output_at, scope_after}
 use Rattle.cf_eval.specs.Outcome.{Outcome, got, later, bad}
 use Rattle.cf_eval.specs.Scope.{Scope}
 use Rattle.cf_desired.specs.Shape.{given_root}
-use Rattle.cf_desired.specs.Stack.{Stack, Verdicts, Sights, value_in, with_prop, props_in}
+use Rattle.cf_desired.specs.Stack.{Stack, Verdicts, Sights, evaluated_in}
+use Rattle.cf_eval.specs.Value.{PropsFound, value_of, with_prop, props_of}
 use Rattle.cf_eval.specs.Texts.{Found}
 use Rattle.cf_desired.specs.Valued.{unless_flaw, member_props, valued_along, valued_inside, valued_in}
 use Rattle.cf_desired.specs.Work.{Member, Nesting, Work, Inside, Body, no_work, resource, nested, shut, barred, halted, opened}
 use Rattle.cf_desired.specs.Work as inside
-use Rattle.cf_eval.proofs.Knowing.{Stands, plain_value_stands as value_stands}
+use Rattle.cf_eval.proofs.Knowing.{Stands, value_stands}
 use Rattle.cf_desired.proofs.Keeping.{GivenKeeps, given_self, given_keeps, KeepsSights, put_keeps, first_keep, over, scope_knows, after_keeps, inside_keeps, names_keep, text_stands}
 
 -- properties, one by one
@@ -38,39 +39,45 @@ unless_kept : (f : Option Flaw) (v w : Evaluated) → StaysKnown (known_of v) (k
 unless_kept None v w h = h
 unless_kept (Some f) v w h = tt
 
-without_value : (path name : List ℕ) (r : Evaluated) → known_of (with_prop path name (got None) r) ≡ known_of r
-without_value path name (evaluated ps) = refl
-without_value path name (flawed f) = refl
+-- what is known of properties, in the stack at a path
+abbrev known_at : List ℕ → PropsFound → Option (List (List ℕ × Data))
+known_at path r = known_of (evaluated_in path r)
 
-with_value : (path name : List ℕ) (d : Data) (r : Evaluated) → known_of (with_prop path name (got (Some d)) r) ≡ option_map (λ rest. (name, d) ∷ rest) (known_of r)
-with_value path name d (evaluated ps) = refl
-with_value path name d (flawed f) = refl
+without_value : (path name : List ℕ) (r : PropsFound) → known_at path (with_prop name (got None) r) ≡ known_at path r
+without_value path name (Ok ps) = refl
+without_value path name (Err w) = refl
 
-with_later : (path name : List ℕ) (r : Evaluated) → known_of (with_prop path name later r) ≡ None
-with_later path name (evaluated ps) = refl
-with_later path name (flawed f) = refl
+with_value : (path name : List ℕ) (d : Data) (r : PropsFound) → known_at path (with_prop name (got (Some d)) r) ≡ option_map (λ rest. (name, d) ∷ rest) (known_at path r)
+with_value path name d (Ok ps) = refl
+with_value path name d (Err w) = refl
 
-known_with : (path name : List ℕ) (o : Option Data) (r u : Evaluated) → StaysKnown (known_of r) (known_of u) → StaysKnown (known_of (with_prop path name (got o) r)) (known_of (with_prop path name (got o) u))
+with_later : (path name : List ℕ) (r : PropsFound) → known_at path (with_prop name later r) ≡ None
+with_later path name (Ok ps) = refl
+with_later path name (Err w) = refl
+
+known_with : (path name : List ℕ) (o : Option Data) (r u : PropsFound) → StaysKnown (known_at path r) (known_at path u)
+    → StaysKnown (known_at path (with_prop name (got o) r)) (known_at path (with_prop name (got o) u))
 known_with path name None r u h =
-    subst (λ x. StaysKnown x (known_of (with_prop path name (got None) u))) (sym (without_value path name r))
-    (subst (λ x. StaysKnown (known_of r) x) (sym (without_value path name u)) h)
+    subst (λ x. StaysKnown x (known_at path (with_prop name (got None) u))) (sym (without_value path name r))
+    (subst (λ x. StaysKnown (known_at path r) x) (sym (without_value path name u)) h)
 known_with path name (Some d) r u h =
-    subst (λ x. StaysKnown x (known_of (with_prop path name (got (Some d)) u))) (sym (with_value path name d r))
-    (subst (λ x. StaysKnown (option_map (λ rest. (name, d) ∷ rest) (known_of r)) x) (sym (with_value path name d u))
-    (kept_map (λ rest. (name, d) ∷ rest) (known_of r) (known_of u) h))
+    subst (λ x. StaysKnown x (known_at path (with_prop name (got (Some d)) u))) (sym (with_value path name d r))
+    (subst (λ x. StaysKnown (option_map (λ rest. (name, d) ∷ rest) (known_at path r)) x) (sym (with_value path name d u))
+    (kept_map (λ rest. (name, d) ∷ rest) (known_at path r) (known_at path u) h))
 
-one_kept : (path name : List ℕ) (x y : Found) (r u : Evaluated) → Stands false x y → StaysKnown (known_of r) (known_of u) → StaysKnown (known_of (with_prop path name x r)) (known_of (with_prop path name y u))
-one_kept path name (got o) y r u g h = subst (λ z. StaysKnown (known_of (with_prop path name (got o) r)) (known_of (with_prop path name z u))) (sym g) (known_with path name o r u h)
-one_kept path name later y r u g h = subst (λ z. StaysKnown z (known_of (with_prop path name y u))) (sym (with_later path name r)) tt
+one_kept : (path name : List ℕ) (x y : Found) (r u : PropsFound) → Stands false x y → StaysKnown (known_at path r) (known_at path u)
+    → StaysKnown (known_at path (with_prop name x r)) (known_at path (with_prop name y u))
+one_kept path name (got o) y r u g h = subst (λ z. StaysKnown (known_at path (with_prop name (got o) r)) (known_at path (with_prop name z u))) (sym g) (known_with path name o r u h)
+one_kept path name later y r u g h = subst (λ z. StaysKnown z (known_at path (with_prop name y u))) (sym (with_later path name r)) tt
 one_kept path name (bad w) y r u g h = tt
 
 module _ (s t : Scope) (k : KnowsMore s t) (path : List ℕ) where
-  props_kept : (ps : List (List ℕ × Form)) → StaysKnown (known_of (props_in path s ps)) (known_of (props_in path t ps))
+  props_kept : (ps : List (List ℕ × Form)) → StaysKnown (known_at path (props_of s ps)) (known_at path (props_of t ps))
   props_kept [] = refl
-  props_kept (p ∷ ps) = one_kept path p.0 (value_in s p.1) (value_in t p.1) (props_in path s ps) (props_in path t ps) (value_stands s t k p.1) (props_kept ps)
+  props_kept (p ∷ ps) = one_kept path p.0 (value_of s p.1) (value_of t p.1) (props_of s ps) (props_of t ps) (value_stands s t k p.1) (props_kept ps)
 
   member_kept : (m : Member) → StaysKnown (known_of (member_props path s m)) (known_of (member_props path t m))
-  member_kept m = unless_kept m.unnamed (props_in path s m.props) (props_in path t m.props) (props_kept m.props)
+  member_kept m = unless_kept m.unnamed (evaluated_in path (props_of s m.props)) (evaluated_in path (props_of t m.props)) (props_kept m.props)
 
 abbrev KeptAll : List (Member × Evaluated) → List (Member × Evaluated) → Type 0
 KeptAll [] [] = ⊤

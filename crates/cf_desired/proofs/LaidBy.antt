@@ -9,15 +9,15 @@ use Rattle.cf_tree.specs.declared.source.Source.{Source}
 use Rattle.cf_tree.specs.declared.template.Res.{Res}
 use Rattle.cf_tree.specs.declared.template.Template.{Template}
 use Rattle.cf_template.proofs.Ordered.{AreOrdered}
-use Rattle.cf_eval.specs.Env.{conditions_of}
-use Rattle.cf_eval.specs.Scope.{Scope}
+use Rattle.cf_eval.specs.Conditions.{conditions_of}
+use Rattle.cf_eval.specs.Scope.{Scope, resource_scope}
 use Rattle.cf_desired.specs.declared.decision.Decision.{Decision}
 use Rattle.cf_desired.specs.declared.decision.Decision.TheVariants as decision
 use Rattle.cf_desired.specs.declared.flaw.Flaw.{Flaw}
 use Rattle.cf_desired.specs.declared.flaw.Flaw.TheVariants as flaw
 use Rattle.cf_desired.specs.declared.laying.Contents.{Contents}
 use Rattle.cf_desired.specs.declared.laying.Count.{Count}
-use Rattle.cf_desired.specs.declared.laying.Course as kept_course
+use Rattle.cf_desired.specs.declared.laying.LaidSoFar as kept_so_far
 use Rattle.cf_desired.specs.declared.laying.Laid.{Laid}
 use Rattle.cf_desired.specs.declared.laying.Way as kept_way
 use Rattle.cf_desired.specs.declared.laying.Way.TheVariants as way
@@ -26,13 +26,13 @@ use Rattle.cf_desired.specs.declared.shape.Shape as kept_shape
 use Rattle.cf_desired.specs.declared.shape.Turn as kept_turn
 use Rattle.cf_desired.specs.declared.shape.Turn.TheVariants.{Closed}
 use Rattle.cf_desired.specs.Given.{Given, unknown}
-use Rattle.cf_desired.specs.Kept.{IsContents, IsJoined, IsLaid, IsLaidAlong, IsShape, IsWithin, WayLaid, course_in, decision_in, nesting_in, turn_in, way_in}
-use Rattle.cf_desired.specs.Laying.{Path, path_begun, enterable_below, decision_of, few, nesting_by, step_by, way_by, with_nested}
+use Rattle.cf_desired.specs.Kept.{IsContents, IsJoined, IsLaid, IsLaidAlong, IsShape, IsWithin, WayLaid, so_far_in, decision_in, nesting_in, turn_in, way_in}
+use Rattle.cf_desired.specs.Laying.{LaidSoFar, none_laid, enterable_below, decision_of, few, nesting_by, step_by, way_by, with_nested}
 use Rattle.cf_desired.specs.Listed.{Made, made_by, settings_by}
 use Rattle.cf_desired.specs.Names.{pseudo_of}
 use Rattle.cf_desired.specs.Seeing.{Seen}
 use Rattle.cf_desired.specs.Shape.{Entering, given_root, laid, own_in, root_of, shape_of, unnamed_at}
-use Rattle.cf_desired.specs.Stack.{Scoping, Settings, Stack, Verdicts, resource_scope}
+use Rattle.cf_desired.specs.Stack.{Scoping, Settings, Stack, Verdicts}
 use Rattle.cf_desired.specs.Templates.{template_named}
 use Rattle.cf_desired.specs.Turns.{Entry, Turn, an_opened, a_closed, the_root, through}
 use Rattle.cf_desired.specs.Work.{Nesting, barred, halted, shut}
@@ -58,10 +58,10 @@ module _ (n : ℕ) (source : Source) (seen : Seen) (e : Entering) (en : Entry) (
   module _ (conds : Verdicts) (order : List Row) (ordered : AreOrdered e.stack.template.resources)
       (decided : Ok (conds, order) ≡ decision_of e.stack (conditions_of e.stack.template bound pseudo)) where
     abbrev scopes : Scoping
-    scopes sights = resource_scope e.stack.template bound conds pseudo sights source.imports
+    scopes sights = resource_scope e.stack.template.mappings bound conds pseudo sights source.imports
 
-    abbrev behind : Path
-    behind = fold (step_by (enterable_below n source seen) source seen e conds scopes) (path_begun seen e.stack conds (own_in e.stack.template order) c.templates c.members) order
+    abbrev behind : LaidSoFar
+    behind = fold (step_by (enterable_below n source seen) source seen e conds scopes) (none_laid seen e.stack conds (own_in e.stack.template order) c.templates c.members) order
 
     pub opened_by : {E : Type 0} (t : kept_turn.Turn) (k : Contents) (r : Result Laid E) → IsContents e.stack conds scopes (own_in e.stack.template order) behind k
         → turn_in t ≡ an_opened en e.stack conds k.made
@@ -75,24 +75,24 @@ module _ (n : ℕ) (source : Source) (seen : Seen) (e : Entering) (en : Entry) (
         (ap (λ (x : Count). x.templates) lc ∙ is.laid.templates) (ap (λ (x : Count). x.members) lc ∙ is.laid.members)
 
 -- where the work behind what was begun came to this
-pub contents_by : (t : Stack) (conds : Verdicts) (over : Scoping) (step : Path → Row → Path) (begin : List (List ℕ) → Path) (order : List Row) (first course : kept_course.Course)
-    (own ids : List (List ℕ)) (made : Made) (laid : Laid) → own ≡ ids → made ≡ made_by conds t.template own → course_in first ≡ begin own → course_in course ≡ fold step (course_in first) order
-    → IsLaidAlong t conds over own (course_in course) laid → IsContents t conds over ids (fold step (begin ids) order) (record { made = made; laid = laid })
-contents_by t conds over step begin order first course own ids made laid owned makes begins works h =
-    let so : course_in course ≡ fold step (begin ids) order =
-    works ∙ ap (λ (p : Path). fold step p order) (begins ∙ ap begin owned) in
+pub contents_by : (t : Stack) (conds : Verdicts) (over : Scoping) (step : LaidSoFar → Row → LaidSoFar) (begin : List (List ℕ) → LaidSoFar) (order : List Row) (first so_far : kept_so_far.LaidSoFar)
+    (own ids : List (List ℕ)) (made : Made) (laid : Laid) → own ≡ ids → made ≡ made_by conds t.template own → so_far_in first ≡ begin own → so_far_in so_far ≡ fold step (so_far_in first) order
+    → IsLaidAlong t conds over own (so_far_in so_far) laid → IsContents t conds over ids (fold step (begin ids) order) (record { made = made; laid = laid })
+contents_by t conds over step begin order first so_far own ids made laid owned makes begins works h =
+    let so : so_far_in so_far ≡ fold step (begin ids) order =
+    works ∙ ap (λ (p : LaidSoFar). fold step p order) (begins ∙ ap begin owned) in
     record {
       made = makes ∙ ap (made_by conds t.template) owned;
-      laid = subst (λ (x : List (List ℕ)). IsLaidAlong t conds over x (fold step (begin ids) order) laid) owned (subst (λ (p : Path). IsLaidAlong t conds over own p laid) so h);
+      laid = subst (λ (x : List (List ℕ)). IsLaidAlong t conds over x (fold step (begin ids) order) laid) owned (subst (λ (p : LaidSoFar). IsLaidAlong t conds over own p laid) so h);
     }
 
 -- a nested stack that has come
-pub nested_by : {U E : Type 0} (left : ℕ) (source : Source) (seen : Seen) (e : Entering) (conds : Verdicts) (over : Scoping) (old : kept_course.Course) (ids : List (List ℕ)) (r : Res)
-    (n inner : kept_nesting.Nesting) (form : Option Form) (u : Option Flaw) (s : Scope) (stack : List ℕ) (w : kept_way.Way) (l : Laid) (new : kept_course.Course) (result : Result U E)
+pub nested_by : {U E : Type 0} (left : ℕ) (source : Source) (seen : Seen) (e : Entering) (conds : Verdicts) (over : Scoping) (old : kept_so_far.LaidSoFar) (ids : List (List ℕ)) (r : Res)
+    (n inner : kept_nesting.Nesting) (form : Option Form) (u : Option Flaw) (s : Scope) (stack : List ℕ) (w : kept_way.Way) (l : Laid) (new : kept_so_far.LaidSoFar) (result : Result U E)
     → nesting_in n ≡ nesting_by e old.stands ids r → nesting_in inner ≡ nesting_in n → form ≡ value_at (codes "Parameters") r.props → u ≡ unnamed_at e.stack.path conds r
     → s ≡ over old.sights → stack ≡ e.stack.path → way_in w ≡ way_by left source stack s old.count.templates old.count.members inner.path r u
     → ((s : Scope) → WayLaid source seen s e (nesting_in inner) form r left old.count (way_in w) l) → IfOk result (λ _. IsJoined source (nesting_in n) l old new)
-    → IfOk result (λ _. course_in new ≡ with_nested (enterable_below left source seen) source seen e conds over (course_in old) ids r)
+    → IfOk result (λ _. so_far_in new ≡ with_nested (enterable_below left source seen) source seen e conds over (so_far_in old) ids r)
 nested_by left source seen e conds over old ids r n inner form u s stack w l new (Err x) hn hi hf hu hs hp hw hl hj = tt
 nested_by left source seen e conds over old ids r n inner form u s stack w l new (Ok done) hn hi hf hu hs hp hw hl hj =
     let here : way_in w ≡ way_by left source e.stack.path (over old.sights) old.count.templates old.count.members n.path r u =

@@ -1,6 +1,6 @@
 -- The shape of a template, laid out along its order of work, is that of the definitions.
 use Rattle.std.proofs.Common.{◌≡◌, ℕ, zero, suc, ◌+◌, ◌-◌, ◌≤◌, List, [], ◌∷◌, ◌++◌, Bool, true, false, ◌||◌, ◌⊎◌, inl, inr, Option, Some, None, Result, Ok, Err, IfOk, refl, sym, ap, subst, ◌∙◌, true≢false, filter, fold, map, option_map, length, append_assoc, append-nil, arith}
-use Rattle.std.specs.Prelude.{⊤, cond, codes, nat_lt}
+use Rattle.std.specs.Prelude.{⊤, cond, codes, nat_lt, unwrap_or}
 use Rattle.std.specs.Option.{option_map_or}
 use Rattle.std.specs.Str.{bytes_eq}
 use Rattle.std.proofs.lemmas.Bool.{ltb-false}
@@ -14,26 +14,25 @@ use Rattle.cf_tree.specs.declared.source.Source.{Source}
 use Rattle.cf_tree.specs.declared.template.Res.{Res}
 use Rattle.cf_tree.specs.declared.template.Template.{Template}
 use Rattle.cf_template.proofs.Ordered.{AreOrdered}
-use Rattle.cf_eval.specs.Conditions.{conditions_found}
-use Rattle.cf_eval.specs.Env.{conditions_of, plain, scope_within}
-use Rattle.cf_eval.specs.Outcome.{Outcome, on_got, got, later, bad}
-use Rattle.cf_eval.specs.Scope.{Scope}
-use Rattle.cf_eval.specs.ScopeOf.{setting_of}
+use Rattle.cf_eval.specs.Conditions.{conditions_found, conditions_of, scope_within}
+use Rattle.cf_eval.specs.Outcome.{Outcome, on_got, got, later, bad, undeclared_at_fault}
+use Rattle.cf_eval.specs.Scope.{Scope, setting_of, resource_scope}
 use Rattle.cf_eval.specs.Texts.{Found}
 use Rattle.cf_graph.specs.Needs.{OrderFault, is_made, needs_in, needs_of, resource_named}
 use Rattle.cf_desired.specs.declared.flaw.Flaw.{Flaw}
 use Rattle.cf_desired.specs.declared.flaw.Flaw.TheVariants as flaw
 use Rattle.cf_desired.specs.Given.{Given, given_in, settings_for}
 use Rattle.cf_desired.specs.declared.laying.Count.{Count}
-use Rattle.cf_desired.specs.declared.laying.Course as kept_course
+use Rattle.cf_desired.specs.declared.laying.LaidSoFar as kept_so_far
 use Rattle.cf_desired.specs.declared.laying.Laid.{Laid}
-use Rattle.cf_desired.specs.Kept.{IsJoined, IsLaid, IsWithin, WayLaid, course_in, turn_in}
-use Rattle.cf_desired.specs.Laying.{IsWay, Path, Way, path_begun, enterable_below, few, decision_of, by_order, order_found, entered_by, entered_way, url_way, way_by, way_shut, inside_by, member_by, nesting_by, step_by, step_with, with_inside, with_member, with_nested}
+use Rattle.cf_desired.specs.Kept.{IsJoined, IsLaid, IsWithin, WayLaid, so_far_in, turn_in}
+use Rattle.cf_desired.specs.Laying.{IsWay, LaidSoFar, Way, none_laid, enterable_below, few, decision_of, by_order, order_found, entered_by, entered_way, name_way, way_by, way_shut, inside_by, member_by, nesting_by, step_by, step_with, with_inside, with_member, with_nested}
 use Rattle.cf_desired.specs.Listed.{made_by, settings_by}
 use Rattle.cf_desired.specs.Names.{path_in, pseudo_of}
 use Rattle.cf_desired.specs.Seeing.{Seen, by_names, first_sights, nested_sight, output_sights, outputs_inside, outputs_of, own_ids, seen_nested, sights_after}
-use Rattle.cf_desired.specs.Shape.{PlanInProgress, Entering, Laying, StandsFor, Url, url, no_url, body_at, body_bound, body_decided, progress_after, entering_below, first_later, first_stands, given_root, has_stack_shape, in_order, inside_of, laid, laid_within, maybe_text, member_of, members_below, members_in, members_inside, needed_by, nested_before, nesting_of, own_id, own_in, paths_below, paths_in, paths_inside, root_of, shape_of, step_before, stood_for, templates_below, templates_in, templates_inside, those, unnamed_at, url_from, url_of, verdicts_of, work_along}
-use Rattle.cf_desired.specs.Stack.{Scoping, Settings, Sights, Stack, Verdicts, resource_scope, scoping, value_in}
+use Rattle.cf_desired.specs.Shape.{PlanInProgress, Entering, Laying, StandsFor, body_at, body_bound, body_decided, progress_after, entering_below, first_later, first_stands, given_root, has_stack_shape, in_order, inside_of, laid, laid_within, maybe_text, member_of, members_below, members_in, members_inside, needed_by, nested_before, nesting_of, own_id, own_in, paths_below, paths_in, paths_inside, root_of, shape_of, step_before, stood_for, templates_below, templates_in, templates_inside, unnamed_at, template_name_from, template_name_of, verdicts_of, work_along}
+use Rattle.cf_desired.specs.Stack.{Scoping, Settings, Sights, Stack, Verdicts, scoping}
+use Rattle.cf_eval.specs.Value.{value_of}
 use Rattle.cf_desired.specs.Templates.{is_stack, template_named}
 use Rattle.cf_desired.specs.Turns.{Entry, a_resource, a_closed, an_opened, turns_along, turns_in, turns_inside}
 use Rattle.cf_desired.specs.Work.{Member, Nesting, Work, Inside, Body, no_work, resource, nested, shut, barred, halted, opened}
@@ -117,7 +116,7 @@ put_same k x y n m h e q = value_put q k x n ∙ either (bytes_eq q k) ∙ sym (
 
 stood_same : (s u : StandsFor) → SameAt s u → (ids : List (List ℕ)) → stood_for s ids ≡ stood_for u ids
 stood_same s u h [] = refl
-stood_same s u h (id ∷ ids) = λ i. those (h id i) ++ stood_same s u h ids i
+stood_same s u h (id ∷ ids) = λ i. unwrap_or (h id i) [] ++ stood_same s u h ids i
 
 -- what the order of work tells a resource to need is what it needs
 module _ (e : Entering) (conds : Verdicts) (told stands : StandsFor) (same : SameAt told stands) (made : StandMade e.stack.template conds stands) where
@@ -133,9 +132,9 @@ module _ (e : Entering) (conds : Verdicts) (told stands : StandsFor) (same : Sam
   nesting_same ids r g = λ i. record (nesting_of e conds stands r) { needs = needs_same ids r g i }
 
 -- what is in a nested stack rests on what its expressions come to
-url_same : (stack path : List ℕ) (s u : Scope) → ((f : Form) → value_in s f ≡ value_in u f) → (r : Res) → url_of stack path s r ≡ url_of stack path u r
-url_same stack path s u h r = ap (url_from stack path) (either (value_at (codes "TemplateURL") r.props)) where
-  either : (o : Option Form) → option_map_or (λ f. on_got (value_in s f) (maybe_text (place_of f))) o (got None) ≡ option_map_or (λ f. on_got (value_in u f) (maybe_text (place_of f))) o (got None)
+name_same : (stack path : List ℕ) (s u : Scope) → ((f : Form) → value_of s f ≡ value_of u f) → (r : Res) → template_name_of stack path s r ≡ template_name_of stack path u r
+name_same stack path s u h r = ap (template_name_from stack path) (either (value_at (codes "TemplateURL") r.props)) where
+  either : (o : Option Form) → option_map_or (λ f. on_got (value_of s f) (maybe_text (place_of f))) o (got None) ≡ option_map_or (λ f. on_got (value_of u f) (maybe_text (place_of f))) o (got None)
   either None = refl
   either (Some f) = ap (λ (x : Found). on_got x (maybe_text (place_of f))) (h f)
 
@@ -145,7 +144,7 @@ module _ (lay : Option Laying) (source : Source) (seen : Seen) (e : Entering) wh
   inside_same s u same c n r (Some f) = refl
   inside_same s u same c n r None = λ i. cond (has_stack_shape r)
       (inside.given_by (value_at (codes "Parameters") r.props)
-      (body_at lay source e n r c.templates c.members (given_same s u same (value_at (codes "Parameters") r.props) i) (url_same e.stack.path n.path s u same.value r i)))
+      (body_at lay source e n r c.templates c.members (given_same s u same (value_at (codes "Parameters") r.props) i) (name_same e.stack.path n.path s u same.value r i)))
       (shut (flaw.Shape n.path))
 
   outs_same : (s u : Scope) → SameScope s u → (i : Inside) → outputs_inside source seen s i ≡ outputs_inside source seen u i
@@ -154,7 +153,7 @@ module _ (lay : Option Laying) (source : Source) (seen : Seen) (e : Entering) wh
 
   module _ (conds : Verdicts) (bound settings : Settings) (pseudo : List (List ℕ × Data)) (binds : SameAt bound settings) (told : pseudo ≡ pseudo_of e.stack.name source.number) where
     abbrev kept : Scoping
-    kept n = resource_scope e.stack.template bound conds pseudo n source.imports
+    kept n = resource_scope e.stack.template.mappings bound conds pseudo n source.imports
 
     abbrev over : Scoping
     over = scoping source e.stack conds settings
@@ -163,7 +162,7 @@ module _ (lay : Option Laying) (source : Source) (seen : Seen) (e : Entering) wh
     scopes n m h = scope_same e.stack.template bound settings conds pseudo (pseudo_of e.stack.name source.number) source.imports n m binds told h
 
     -- what is known along the order of work is the same
-    record Alike (k : Path) (c : PlanInProgress) : Type 0 where
+    record Alike (k : LaidSoFar) (c : PlanInProgress) : Type 0 where
       sights : SameAt k.sights c.sights
       stands : SameAt k.stands c.stands
       made : StandMade e.stack.template conds c.stands
@@ -171,18 +170,18 @@ module _ (lay : Option Laying) (source : Source) (seen : Seen) (e : Entering) wh
       members : k.members ≡ c.members
 
     -- what comes along some work
-    record Goes (k l : Path) (c : PlanInProgress) (w : Work) : Type 0 where
+    record Goes (k l : LaidSoFar) (c : PlanInProgress) (w : Work) : Type 0 where
       turns : l.turns ≡ k.turns ++ turns_along w
       paths : l.paths ≡ k.paths ++ paths_below w
       templates : l.templates ≡ k.templates + templates_below w
       members : l.members ≡ k.members + members_below w
       sights : SameAt l.sights (sights_after source seen over c.sights w)
 
-    abbrev step : Path → Row → Path
+    abbrev step : LaidSoFar → Row → LaidSoFar
     step = step_by lay source seen e conds kept
 
     module _ (m : Row) (order : List Row) (h : HasNeeds e.stack.template conds m)
-        (ih : (k : Path) (c : PlanInProgress) → Alike k c → Goes k (fold step k order) c (work_along lay source seen e conds over order c)) (k : Path) (c : PlanInProgress) (a : Alike k c) where
+        (ih : (k : LaidSoFar) (c : PlanInProgress) → Alike k c → Goes k (fold step k order) c (work_along lay source seen e conds over order c)) (k : LaidSoFar) (c : PlanInProgress) (a : Alike k c) where
       abbrev rest_work : PlanInProgress → Work
       rest_work d = work_along lay source seen e conds over order d
 
@@ -242,7 +241,7 @@ module _ (lay : Option Laying) (source : Source) (seen : Seen) (e : Entering) wh
         with_stack : Goes k (fold step (with_nested lay source seen e conds kept k m.1 r) order) c (nested n i (rest_work d))
         with_stack =
             let rest = ih (with_inside source seen (over c.sights) n i k) d alike in
-            subst (λ (x : Path). Goes k (fold step x order) c (nested n i (rest_work d))) (sym after)
+            subst (λ (x : LaidSoFar). Goes k (fold step x order) c (nested n i (rest_work d))) (sym after)
             (record {
               turns = rest.turns ∙ append_assoc k.turns (turns_inside n i) (turns_along (rest_work d));
               paths = rest.paths ∙ append_assoc k.paths (paths_inside i ++ n.needs) (paths_below (rest_work d));
@@ -263,7 +262,7 @@ module _ (lay : Option Laying) (source : Source) (seen : Seen) (e : Entering) wh
       by_name None f = ih k c a
       by_name (Some r) f = by_kind r f (is_stack r)
 
-    along : (order : List Row) → AllNeeds e.stack.template conds order → (k : Path) (c : PlanInProgress) → Alike k c → Goes k (fold step k order) c (work_along lay source seen e conds over order c)
+    along : (order : List Row) → AllNeeds e.stack.template conds order → (k : LaidSoFar) (c : PlanInProgress) → Alike k c → Goes k (fold step k order) c (work_along lay source seen e conds over order c)
     along [] h k c a = record {
       turns = sym (append-nil k.turns);
       paths = sym (append-nil k.paths);
@@ -284,11 +283,11 @@ module _ (lay : Option Laying) (source : Source) (seen : Seen) (e : Entering) wh
       abbrev work : Work
       work = work_along lay source seen e conds over order first
 
-      abbrev behind : Path
-      behind = fold step (path_begun seen e.stack conds own templates members) order
+      abbrev behind : LaidSoFar
+      behind = fold step (none_laid seen e.stack conds own templates members) order
 
-      goes : Goes (path_begun seen e.stack conds own templates members) behind first work
-      goes = along order h (path_begun seen e.stack conds own templates members) first (record {
+      goes : Goes (none_laid seen e.stack conds own templates members) behind first work
+      goes = along order h (none_laid seen e.stack conds own templates members) first (record {
         sights = sights_listed e.stack conds seen own;
         stands = stands_listed e.stack own;
         made = first_made e.stack.template conds e.stack order h;
@@ -320,7 +319,7 @@ module _ (lay : Option Laying) (source : Source) (seen : Seen) (e : Entering) wh
 -- conditions rest on what stands under the names of parameters
 conditions_same : (t : Template) (bound settings : Settings) (pseudo told : List (List ℕ × Data)) → SameAt bound settings → pseudo ≡ told → conditions_of t bound pseudo ≡ conditions_of t settings told
 conditions_same t bound settings pseudo told h p =
-    λ i. plain (conditions_found (record (scope_within t bound (p i)) { params = λ name. option_map setting_of (h name i) }) t.conds)
+    λ i. undeclared_at_fault (conditions_found (record (scope_within t bound (p i)) { params = λ name. option_map setting_of (h name i) }) t.conds)
 
 -- a template that is entered at a depth
 laid_below : (n : ℕ) (source : Source) (seen : Seen) (e : Entering) (g : Given) (templates members : ℕ)
@@ -431,17 +430,17 @@ way_fits left source stack s templates members path r o w h = subst (IsWay left 
       let so = entered_so left path name templates members (template_named name source) t e in
       (so.0, (so.1.1, subst IfOrdered so.1.0 (if_ordered name source)))
 
-  by_url : (g : Given) (u : Url) → IsWay left templates members (url_way left source path templates members g u)
-  by_url g (no_url f) = tt
-  by_url g (url name) = by_entered name g (entered_by left path name templates members (template_named name source)) refl
+  by_template : (g : Given) (u : Result (List ℕ) Flaw) → IsWay left templates members (name_way left source path templates members g u)
+  by_template g (Err f) = tt
+  by_template g (Ok name) = by_entered name g (entered_by left path name templates members (template_named name source)) refl
 
-  by_shape : (g : Given) (u : Url) (b : Bool) → IsWay left templates members (cond b (url_way left source path templates members g u) (way_shut (flaw.Shape path)))
-  by_shape g u true = by_url g u
+  by_shape : (g : Given) (u : Result (List ℕ) Flaw) (b : Bool) → IsWay left templates members (cond b (name_way left source path templates members g u) (way_shut (flaw.Shape path)))
+  by_shape g u true = by_template g u
   by_shape g u false = tt
 
   by_flaw : (o : Option Flaw) → IsWay left templates members (way_by left source stack s templates members path r o)
   by_flaw (Some f) = tt
-  by_flaw None = by_shape (given_in s (value_at (codes "Parameters") r.props)) (url_of stack path s r) (has_stack_shape r)
+  by_flaw None = by_shape (given_in s (value_at (codes "Parameters") r.props)) (template_name_of stack path s r) (has_stack_shape r)
 
 -- what is laid out by what becomes of a nested stack is what is in it
 pub way_laid : (left : ℕ) (source : Source) (seen : Seen) (s : Scope) (e : Entering) (n : Nesting) (r : Res) (c : Count) (o : Option Flaw) (w : Way) (l : Laid)
@@ -454,18 +453,18 @@ way_laid left source seen s e n r c o w l h k = by_flaw o (subst (λ x. WayLaid 
   by_entered (Ok t) k = k
   by_entered (Err f) k = k
 
-  by_url : (u : Url) → WayLaid source seen s e n (value_at (codes "Parameters") r.props) r left c (url_way left source n.path c.templates c.members (given_in s (value_at (codes "Parameters") r.props)) u) l
+  by_template : (u : Result (List ℕ) Flaw) → WayLaid source seen s e n (value_at (codes "Parameters") r.props) r left c (name_way left source n.path c.templates c.members (given_in s (value_at (codes "Parameters") r.props)) u) l
       → IsWithin source seen s n c (inside.given_by (value_at (codes "Parameters") r.props) (body_at (enterable_below left source seen) source e n r c.templates c.members (given_in s (value_at (codes "Parameters") r.props)) u)) l
-  by_url (no_url f) k = k
-  by_url (url name) k =
+  by_template (Err f) k = k
+  by_template (Ok name) k =
       subst (λ (b : Body). IsWithin source seen s n c (inside.given_by (value_at (codes "Parameters") r.props) b) l)
       (sym (within_entered left source seen n.path name c.templates c.members (template_named name source) (entering_below e n r) (given_in s (value_at (codes "Parameters") r.props))))
       (by_entered (entered_by left n.path name c.templates c.members (template_named name source)) k)
 
   by_shape : (b : Bool)
-      → WayLaid source seen s e n (value_at (codes "Parameters") r.props) r left c (cond b (url_way left source n.path c.templates c.members (given_in s (value_at (codes "Parameters") r.props)) (url_of e.stack.path n.path s r)) (way_shut (flaw.Shape n.path))) l
-      → IsWithin source seen s n c (cond b (inside.given_by (value_at (codes "Parameters") r.props) (body_at (enterable_below left source seen) source e n r c.templates c.members (given_in s (value_at (codes "Parameters") r.props)) (url_of e.stack.path n.path s r))) (shut (flaw.Shape n.path))) l
-  by_shape true k = by_url (url_of e.stack.path n.path s r) k
+      → WayLaid source seen s e n (value_at (codes "Parameters") r.props) r left c (cond b (name_way left source n.path c.templates c.members (given_in s (value_at (codes "Parameters") r.props)) (template_name_of e.stack.path n.path s r)) (way_shut (flaw.Shape n.path))) l
+      → IsWithin source seen s n c (cond b (inside.given_by (value_at (codes "Parameters") r.props) (body_at (enterable_below left source seen) source e n r c.templates c.members (given_in s (value_at (codes "Parameters") r.props)) (template_name_of e.stack.path n.path s r))) (shut (flaw.Shape n.path))) l
+  by_shape true k = by_template (template_name_of e.stack.path n.path s r) k
   by_shape false k = k
 
   by_flaw : (o : Option Flaw) → WayLaid source seen s e n (value_at (codes "Parameters") r.props) r left c (way_by left source e.stack.path s c.templates c.members n.path r o) l
@@ -473,14 +472,14 @@ way_laid left source seen s e n r c o w l h k = by_flaw o (subst (λ x. WayLaid 
   by_flaw (Some f) k = k
   by_flaw None k = by_shape (has_stack_shape r) k
 
--- the course behind a nested stack that was laid out
-pub nested_so : (lay : Option Laying) (source : Source) (seen : Seen) (e : Entering) (conds : Verdicts) (over : Scoping) (old new : kept_course.Course) (ids : List (List ℕ)) (r : Res) (n : Nesting) (u : Option Flaw) (l : Laid)
+-- what is laid out after a nested stack that was laid out
+pub nested_so : (lay : Option Laying) (source : Source) (seen : Seen) (e : Entering) (conds : Verdicts) (over : Scoping) (old new : kept_so_far.LaidSoFar) (ids : List (List ℕ)) (r : Res) (n : Nesting) (u : Option Flaw) (l : Laid)
     → n ≡ nesting_by e old.stands ids r → u ≡ unnamed_at e.stack.path conds r
     → IsWithin source seen (over old.sights) n old.count (inside_by lay source e (over old.sights) old.count.templates old.count.members n r u) l → IsJoined source n l old new
-    → course_in new ≡ with_nested lay source seen e conds over (course_in old) ids r
+    → so_far_in new ≡ with_nested lay source seen e conds over (so_far_in old) ids r
 nested_so lay source seen e conds over old new ids r n u l en eu w j =
     let i = inside_by lay source e (over old.sights) old.count.templates old.count.members n r u in
-    let here : course_in new ≡ with_inside source seen (over old.sights) n i (course_in old) = λ k. record {
+    let here : so_far_in new ≡ with_inside source seen (over old.sights) n i (so_far_in old) = λ k. record {
       turns = (j.turns ∙ ap (λ ts. map turn_in old.turns ++ ts) w.turns) k;
       sights = (j.sights ∙ ap (λ os. seen_nested source n os old.sights) w.outputs) k;
       stands = (j.stands ∙ ap (λ ps. put n.id (ps ++ n.needs) old.stands) w.paths) k;
@@ -488,15 +487,15 @@ nested_so lay source seen e conds over old new ids r n u l en eu w j =
       templates = (ap (λ (c : Count). c.templates) j.count ∙ w.templates) k;
       members = (ap (λ (c : Count). c.members) j.count ∙ w.members) k;
     } in
-    here ∙ (λ k. with_inside source seen (over old.sights) (en k) (inside_by lay source e (over old.sights) old.count.templates old.count.members (en k) r (eu k)) (course_in old))
+    here ∙ (λ k. with_inside source seen (over old.sights) (en k) (inside_by lay source e (over old.sights) old.count.templates old.count.members (en k) r (eu k)) (so_far_in old))
 
 -- a template that was opened, or that is halted, is laid out
-pub opened_laid : (n : ℕ) (source : Source) (seen : Seen) (e : Entering) (en : Entry) (g : Given) (c : Count) (bound : Settings) (pseudo : List (List ℕ × Data)) (conds : Verdicts) (order : List Row) (k : Path) (l : Laid)
+pub opened_laid : (n : ℕ) (source : Source) (seen : Seen) (e : Entering) (en : Entry) (g : Given) (c : Count) (bound : Settings) (pseudo : List (List ℕ × Data)) (conds : Verdicts) (order : List Row) (k : LaidSoFar) (l : Laid)
     → AreOrdered e.stack.template.resources → bound ≡ settings_by e.stack.template.params g → pseudo ≡ pseudo_of e.stack.name source.number
     → Ok (conds, order) ≡ decision_of e.stack (conditions_of e.stack.template bound pseudo)
-    → k ≡ fold (step_by (enterable_below n source seen) source seen e conds (λ sights. resource_scope e.stack.template bound conds pseudo sights source.imports)) (path_begun seen e.stack conds (own_in e.stack.template order) c.templates c.members) order
+    → k ≡ fold (step_by (enterable_below n source seen) source seen e conds (λ sights. resource_scope e.stack.template.mappings bound conds pseudo sights source.imports)) (none_laid seen e.stack conds (own_in e.stack.template order) c.templates c.members) order
     → map turn_in l.turns ≡ an_opened en e.stack conds (made_by conds e.stack.template (own_in e.stack.template order)) ∷ (k.turns ++ a_closed ∷ [])
-    → l.outputs ≡ by_names (output_sights e.stack conds (resource_scope e.stack.template bound conds pseudo k.sights source.imports))
+    → l.outputs ≡ by_names (output_sights e.stack conds (resource_scope e.stack.template.mappings bound conds pseudo k.sights source.imports))
     → l.paths ≡ map (path_in e.stack.path) (own_in e.stack.template order) ++ k.paths → l.count.templates ≡ k.templates → l.count.members ≡ k.members
     → IsLaid source seen en g c (laid n source seen e g (c.templates + 1) (c.members + length e.stack.template.resources)) l
 opened_laid n source seen e en g c bound pseudo conds order k l ordered b p d kk ts os ps nt nm =
@@ -508,13 +507,13 @@ opened_laid n source seen e en g c bound pseudo conds order k l ordered b p d kk
     laid_so n source seen e g (c.templates + 1) (c.members + length e.stack.template.resources) bound pseudo b p (Ok (conds, order)) d in
     subst (λ x. IsLaid source seen en g c x l) (sym same)
     (record {
-      turns = ts ∙ ap (λ (x : Path). an_opened en e.stack conds (made_by conds e.stack.template (own_in e.stack.template order)) ∷ (x.turns ++ a_closed ∷ [])) kk ∙ opened_turns lay source seen e conds bound settings pseudo binds p c.templates c.members order needs en;
+      turns = ts ∙ ap (λ (x : LaidSoFar). an_opened en e.stack conds (made_by conds e.stack.template (own_in e.stack.template order)) ∷ (x.turns ++ a_closed ∷ [])) kk ∙ opened_turns lay source seen e conds bound settings pseudo binds p c.templates c.members order needs en;
       outputs =
-          os ∙ ap (λ (x : Path). by_names (output_sights e.stack conds (resource_scope e.stack.template bound conds pseudo x.sights source.imports))) kk
+          os ∙ ap (λ (x : LaidSoFar). by_names (output_sights e.stack conds (resource_scope e.stack.template.mappings bound conds pseudo x.sights source.imports))) kk
           ∙ ap by_names (opened_outputs lay source seen e conds bound settings pseudo binds p c.templates c.members order needs g refl);
-      paths = ps ∙ ap (λ (x : Path). map (path_in e.stack.path) (own_in e.stack.template order) ++ x.paths) kk ∙ opened_paths lay source seen e conds bound settings pseudo binds p c.templates c.members order needs;
-      templates = nt ∙ ap (λ (x : Path). x.templates) kk ∙ opened_templates lay source seen e conds bound settings pseudo binds p c.templates c.members order needs;
-      members = nm ∙ ap (λ (x : Path). x.members) kk ∙ opened_members lay source seen e conds bound settings pseudo binds p c.templates c.members order needs;
+      paths = ps ∙ ap (λ (x : LaidSoFar). map (path_in e.stack.path) (own_in e.stack.template order) ++ x.paths) kk ∙ opened_paths lay source seen e conds bound settings pseudo binds p c.templates c.members order needs;
+      templates = nt ∙ ap (λ (x : LaidSoFar). x.templates) kk ∙ opened_templates lay source seen e conds bound settings pseudo binds p c.templates c.members order needs;
+      members = nm ∙ ap (λ (x : LaidSoFar). x.members) kk ∙ opened_members lay source seen e conds bound settings pseudo binds p c.templates c.members order needs;
     })
 
 pub halted_laid : (n : ℕ) (source : Source) (seen : Seen) (e : Entering) (en : Entry) (g : Given) (c : Count) (bound : Settings) (pseudo : List (List ℕ × Data)) (f : Flaw) (l : Laid)

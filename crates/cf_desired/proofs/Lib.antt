@@ -29,7 +29,7 @@ pub mod Known
 pub mod All
 pub mod Blames
 pub mod Offering
-pub mod UrlStops
+pub mod NameStops
 pub mod Decisions
 pub mod Limits
 pub mod OnTop

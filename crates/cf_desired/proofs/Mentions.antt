@@ -15,26 +15,23 @@ use Rattle.cf_tree.specs.declared.parts.Part.TheVariants.{Plain, Name}
 use Rattle.cf_tree.specs.declared.template.Template.{Template}
 use Rattle.cf_eval.specs.declared.env.Sight.{Sight}
 use Rattle.cf_eval.specs.declared.fault.EvalWhy.TheVariants.{UnknownName}
-use Rattle.cf_eval.specs.Outcome.{got, later, bad, on_got, both, each}
-use Rattle.cf_eval.specs.Scope.{Scope, decided_at}
-use Rattle.cf_eval.specs.ScopeOf.{setting_of, verdict_of}
+use Rattle.cf_eval.specs.Outcome.{got, later, bad, on_got, both, each, undeclared_at_fault}
+use Rattle.cf_eval.specs.Scope.{Scope, decided_at, setting_of, verdict_of, resource_scope}
 use Rattle.cf_eval.specs.Texts.{Found, known, within, as_text}
 use Rattle.cf_eval.specs.Functions.{or_fault, id_of, attribute_found, setting_found, ref_found, attribute_in, get_att_found, cut_found, name_found, piece_found, put_together, outcomes, sub_found, join_found, select_found, split_found, find_found, if_found, import_found, base64_found}
-use Rattle.cf_eval.specs.Value.{form_found, node_found, forms_found, fields_found, blamed, list_found, dict_found}
+use Rattle.cf_eval.specs.Value.{form_found, node_found, forms_found, fields_found, blamed, list_found, dict_found, value_of, with_prop, props_of}
 use Rattle.cf_graph.specs.Mentions.{Mention, hole, holes_in, keys_of, taken_branch, mentions_of, node_mentions, forms_mentions, fields_mentions}
 use Rattle.cf_graph.specs.Needs.{is_true, holds_in}
 use Rattle.cf_desired.specs.Rests.{SeesSame, SeesAllSame, ValueRests}
-use Rattle.cf_desired.specs.Stack.{resource_scope, value_in, with_prop, props_in}
-use Rattle.cf_eval.specs.Env.{plain}
 
 module _
     (t : Template) (bound : List (List ℕ × Setting)) (conds : List (List ℕ × Verdict)) (pseudo : List (List ℕ × Data)) (imports : List (List ℕ × List ℕ))
     (m n : List (List ℕ × Sight)) where
   abbrev s : Scope
-  s = resource_scope t bound conds pseudo m imports
+  s = resource_scope t.mappings bound conds pseudo m imports
 
   abbrev u : Scope
-  u = resource_scope t bound conds pseudo n imports
+  u = resource_scope t.mappings bound conds pseudo n imports
 
   abbrev holds : List ℕ → Option Bool
   holds = holds_in conds
@@ -156,11 +153,11 @@ module _
         ∙ ap (λ xs. (k, form_found s around e) ∷ xs) (fields_same around ps (second_agree (mentions_of holds e) _ a))
 
   -- properties, one by one
-  pub props_same : (path : List ℕ) (ps : List (List ℕ × Form)) → SeesAllSame bound m n (fields_mentions holds (fields_of ps)) → props_in path u ps ≡ props_in path s ps
-  props_same path [] a = refl
-  props_same path (p ∷ ps) a =
-      ap (λ f. with_prop path p.0 f (props_in path u ps)) (ap plain (form_same None p.1 (first_agree (mentions_of holds p.1) _ a)))
-      ∙ ap (with_prop path p.0 (value_in s p.1)) (props_same path ps (second_agree (mentions_of holds p.1) _ a))
+  pub props_same : (ps : List (List ℕ × Form)) → SeesAllSame bound m n (fields_mentions holds (fields_of ps)) → props_of u ps ≡ props_of s ps
+  props_same [] a = refl
+  props_same (p ∷ ps) a =
+      ap (λ f. with_prop p.0 f (props_of u ps)) (ap undeclared_at_fault (form_same None p.1 (first_agree (mentions_of holds p.1) _ a)))
+      ∙ ap (with_prop p.0 (value_of s p.1)) (props_same ps (second_agree (mentions_of holds p.1) _ a))
 
 pub value_rests : ValueRests
-value_rests t bound conds pseudo imports m n e a = ap plain (form_same t bound conds pseudo imports m n None e a)
+value_rests t bound conds pseudo imports m n e a = ap undeclared_at_fault (form_same t bound conds pseudo imports m n None e a)

@@ -1,6 +1,6 @@
 -- Where all that a path needs is seen, its properties are known or at fault: what it doesn't mention may as well not be made.
 use Rattle.std.proofs.Common.{◌≡◌, ℕ, List, [], ◌∷◌, ◌++◌, Bool, true, false, not, ◌&&◌, ◌||◌, Option, Some, None, refl, sym, ap, subst, ◌∙◌, true≢false, map, find, option_map}
-use Rattle.std.specs.Prelude.{⊤, cond, flat_map, is_some}
+use Rattle.std.specs.Prelude.{⊤, cond, flat_map, is_some, unwrap_or}
 use Rattle.std.specs.Cmp.{first_so, second_so}
 use Rattle.std.specs.List.{list_all}
 use Rattle.std.specs.Str.{bytes_eq}
@@ -30,10 +30,11 @@ use Rattle.cf_eval.specs.Outcome.{Stop}
 use Rattle.cf_eval.specs.declared.env.OutputSight.{OutputSight}
 use Rattle.cf_eval.specs.declared.env.OutputSight.TheVariants as output
 use Rattle.cf_desired.specs.Rests.{SeesAllSame}
-use Rattle.cf_desired.specs.Shape.{StandsFor, those, first_stands, paths_below, paths_inside, paths_in, given_root, shape_of}
+use Rattle.cf_desired.specs.Shape.{StandsFor, first_stands, paths_below, paths_inside, paths_in, given_root, shape_of}
 use Rattle.cf_eval.specs.declared.env.Sight.{Sight}
 use Rattle.cf_eval.specs.declared.env.Sight.TheVariants as sight
-use Rattle.cf_desired.specs.Stack.{Stack, Verdicts, Sights, Scoping, scoping, flaw_at, props_in}
+use Rattle.cf_desired.specs.Stack.{Stack, Verdicts, Sights, Scoping, scoping, evaluated_in, flaw_at}
+use Rattle.cf_eval.specs.Value.{props_of}
 use Rattle.cf_desired.specs.Work.{Member, Nesting, Work, Inside, Body, no_work, resource, nested, shut, barred, halted, opened}
 use Rattle.cf_desired.specs.Work as inside
 use Rattle.cf_desired.proofs.Covers.{In, AreDecided, CoversAll, CoversForm, Covers, CoversInside, CoversBody, shape_covered}
@@ -164,20 +165,20 @@ module _ (source : Source) (seen : Seen) where
 
   -- what ids stand for is seen, so all of it is
   abbrev SightsShown : StandsFor → Sights → Type 0
-  SightsShown stands m = (id : List ℕ) → Shown (those (value_at id stands)) → IsFull (value_at id m)
+  SightsShown stands m = (id : List ℕ) → Shown (unwrap_or (value_at id stands) []) → IsFull (value_at id m)
 
   first_sights_shown : (t : Stack) (conds : Verdicts) (ids : List (List ℕ)) → SightsShown (first_stands t ids) (first_sights t conds seen ids)
   first_sights_shown t conds [] id h = first_full source seen t conds [] (λ q k. absurd (true≢false (sym k))) id
   first_sights_shown t conds (k ∷ ids) id h = either (bytes_eq id k) refl h (first_sights_shown t conds ids id) where
-    either : (b : Bool) → bytes_eq id k ≡ b → Shown (those (cond b (Some (path_in t.path k ∷ [])) (value_at id (first_stands t ids))))
-        → (Shown (those (value_at id (first_stands t ids))) → IsFull (value_at id (first_sights t conds seen ids)))
+    either : (b : Bool) → bytes_eq id k ≡ b → Shown (unwrap_or (cond b (Some (path_in t.path k ∷ [])) (value_at id (first_stands t ids))) [])
+        → (Shown (unwrap_or (value_at id (first_stands t ids)) []) → IsFull (value_at id (first_sights t conds seen ids)))
         → IsFull (cond b (Some (seen_as (value_at (path_in t.path k) seen))) (value_at id (first_sights t conds seen ids)))
     either true e s ih = subst (λ b. IsFull (cond b (Some (seen_as (value_at (path_in t.path k) seen))) (value_at k (unmade_sights t conds)))) ((bytes_eq-Decides k k).1 refl) (first_full source seen t conds (k ∷ []) s k)
     either false e s ih = ih s
 
   put_shown : (stands : StandsFor) (m : Sights) (k : List ℕ) (ps : List (List ℕ)) (x : Sight) → SightsShown stands m → (Shown ps → IsFull (Some x)) → SightsShown (put k ps stands) (put k x m)
-  put_shown stands m k ps x h f id s = subst IsFull (sym (value_put id k x m)) (either (bytes_eq id k) (subst (λ o. Shown (those o)) (value_put id k ps stands) s)) where
-    either : (b : Bool) → Shown (those (cond b (Some ps) (value_at id stands))) → IsFull (cond b (Some x) (value_at id m))
+  put_shown stands m k ps x h f id s = subst IsFull (sym (value_put id k x m)) (either (bytes_eq id k) (subst (λ o. Shown (unwrap_or o [])) (value_put id k ps stands) s)) where
+    either : (b : Bool) → Shown (unwrap_or (cond b (Some ps) (value_at id stands)) []) → IsFull (cond b (Some x) (value_at id m))
     either true g = f g
     either false g = h id g
 
@@ -198,11 +199,11 @@ module _ (source : Source) (seen : Seen) where
     member_settled : AreBound t.template.params g → (stands : StandsFor) (m : Sights) (r : Member) → SightsShown stands m → Shown r.needs → CoversAll t.template r.needs stands (fields_mentions (holds_in conds) (fields_of r.props))
         → is_settled (member_props t.path (on t conds g m) r) ≡ true
     member_settled b stands m r h k c =
-        ap (λ v. is_settled (unless_flaw r.unnamed v))
-        (props_same t.template (settings_for t.template.params g) conds (pseudo_of t.name source.number) source.imports (fulls m) m t.path r.props
+        ap (λ v. is_settled (unless_flaw r.unnamed (evaluated_in t.path v)))
+        (props_same t.template (settings_for t.template.params g) conds (pseudo_of t.name source.number) source.imports (fulls m) m r.props
         (agree_shown t.template g r.needs stands m h k (fields_mentions (holds_in conds) (fields_of r.props)) c))
         ∙ settled r.unnamed where
-          settled : (f : Option Flaw) → is_settled (unless_flaw f (props_in t.path (on t conds g (fulls m)) r.props)) ≡ true
+          settled : (f : Option Flaw) → is_settled (unless_flaw f (evaluated_in t.path (props_of (on t conds g (fulls m)) r.props))) ≡ true
           settled None = props_settled source seen (on t conds g (fulls m)) (known_fulls b m) t.path r.props
           settled (Some f) = refl
 

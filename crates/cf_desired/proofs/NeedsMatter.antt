@@ -1,6 +1,6 @@
 -- The properties of a path rest on what is seen of the paths that it needs alone.
 use Rattle.std.proofs.Common.{◌≡◌, ℕ, List, [], ◌∷◌, ◌++◌, Bool, true, false, ◌||◌, Option, Some, None, refl, sym, ap, subst, ◌∙◌, true≢false, map, find, option_map}
-use Rattle.std.specs.Prelude.{⊤, cond, codes, is_some}
+use Rattle.std.specs.Prelude.{⊤, cond, codes, is_some, unwrap_or}
 use Rattle.std.specs.Option.{option_map_or, option_and_then, option_or}
 use Rattle.std.specs.Str.{bytes_eq}
 use Rattle.std.proofs.lemmas.Slice.Eq.{bytes_eq-Decides}
@@ -15,7 +15,6 @@ use Rattle.cf_tree.specs.declared.source.Source.{Source}
 use Rattle.cf_tree.specs.declared.template.Out.{Out}
 use Rattle.cf_tree.specs.declared.template.Param.{Param}
 use Rattle.cf_tree.specs.declared.template.Template.{Template}
-use Rattle.cf_eval.specs.ScopeOf.{verdict_of}
 use Rattle.cf_graph.specs.Mentions.{Mention, by_ref, by_attribute, mentions_of, node_mentions, fields_mentions, taken_branch}
 use Rattle.cf_graph.specs.Needs.{is_true, holds_in}
 use Rattle.cf_tree.specs.Lists.{is_among}
@@ -29,18 +28,17 @@ use Rattle.cf_desired.proofs.Puts.{value_put}
 use Rattle.cf_desired.specs.Plan.{at_path}
 use Rattle.cf_desired.specs.Given.{Given, Offers, offers_in, node_offers, offered_fields, map_wanted, blamed_on, given_in, given_by, settings_for, setting_given}
 use Rattle.cf_desired.specs.NeedsMatter.{NeedsMatter}
-use Rattle.cf_eval.specs.Outcome.{Outcome, got, on_got}
+use Rattle.cf_eval.specs.Outcome.{Outcome, got, on_got, undeclared_at_fault}
 use Rattle.cf_eval.specs.declared.env.OutputSight.{OutputSight}
 use Rattle.cf_eval.specs.declared.env.OutputSight.TheVariants as output
 use Rattle.cf_desired.specs.Rests.{SeesAllSame}
-use Rattle.cf_eval.specs.Scope.{Scope, decided_at}
-use Rattle.cf_desired.specs.Shape.{StandsFor, those, first_stands, paths_below, paths_inside, paths_in, given_root, shape_of}
+use Rattle.cf_eval.specs.Scope.{Scope, decided_at, verdict_of, resource_scope}
+use Rattle.cf_desired.specs.Shape.{StandsFor, first_stands, paths_below, paths_inside, paths_in, given_root, shape_of}
 use Rattle.cf_eval.specs.declared.env.Sight.{Sight}
 use Rattle.cf_eval.specs.declared.env.Sight.TheVariants as sight
-use Rattle.cf_desired.specs.Stack.{Stack, Verdicts, Settings, Sights, Scoping, resource_scope, scoping, value_in, stop_in}
-use Rattle.cf_eval.specs.Env.{plain}
+use Rattle.cf_desired.specs.Stack.{Stack, Verdicts, Settings, Sights, Scoping, evaluated_in, scoping, stop_in}
 use Rattle.cf_eval.specs.Texts.{as_text}
-use Rattle.cf_eval.specs.Value.{form_found, blamed}
+use Rattle.cf_eval.specs.Value.{form_found, blamed, value_of, value_within}
 use Rattle.cf_desired.specs.Work.{Member, Nesting, Work, Inside, Body, no_work, resource, nested, shut, barred, halted, opened}
 use Rattle.cf_desired.specs.Work as inside
 use Rattle.cf_desired.proofs.Covers.{In, CoversAll, CoversForm, Covers, CoversInside, CoversBody, shape_covered}
@@ -50,10 +48,10 @@ use Rattle.cf_desired.proofs.Mentions.{first_agree, second_agree, form_same, pro
 module _
     (t : Template) (bound : Settings) (conds : Verdicts) (pseudo : List (List ℕ × Data)) (imports : List (List ℕ × List ℕ)) (m n : Sights) where
   abbrev s : Scope
-  s = resource_scope t bound conds pseudo m imports
+  s = resource_scope t.mappings bound conds pseudo m imports
 
   abbrev u : Scope
-  u = resource_scope t bound conds pseudo n imports
+  u = resource_scope t.mappings bound conds pseudo n imports
 
   abbrev holds : List ℕ → Option Bool
   holds = holds_in conds
@@ -64,8 +62,8 @@ module _
   offered_same : (around : Option (List ℕ)) (fs : Fields) → SeesAllSame bound m n (fields_mentions holds fs) → offered_fields u around fs ≡ offered_fields s around fs
   offered_same around no_fields a = refl
   offered_same around (field k e fs) a =
-      ap (λ x. record { name = k; at = blamed_on around e; value = plain x } ∷ offered_fields u around fs) (one_same around e (first_agree t bound conds pseudo imports m n (mentions_of holds e) _ a))
-      ∙ ap (λ os. record { name = k; at = blamed_on around e; value = plain (form_found s around e) } ∷ os) (offered_same around fs (second_agree t bound conds pseudo imports m n (mentions_of holds e) _ a))
+      ap (λ x. record { name = k; at = blamed_on around e; value = undeclared_at_fault x } ∷ offered_fields u around fs) (one_same around e (first_agree t bound conds pseudo imports m n (mentions_of holds e) _ a))
+      ∙ ap (λ os. record { name = k; at = blamed_on around e; value = value_within s around e } ∷ os) (offered_same around fs (second_agree t bound conds pseudo imports m n (mentions_of holds e) _ a))
 
   branch_same :
       (at name : List ℕ) (o : Option Verdict) (x y v w : Outcome Offers) (first second : List Mention) → (SeesAllSame bound m n first → v ≡ x) → (SeesAllSame bound m n second → w ≡ y)
@@ -77,8 +75,8 @@ module _
   branch_same at name (Some verdict.Later) x y v w first second g h a = refl
 
   as_value : (around : Option (List ℕ)) (at : List ℕ) (x : Node) → SeesAllSame bound m n (node_mentions holds x)
-      → on_got (plain (form_found u around (expr at x))) (map_wanted (blamed around at x)) ≡ on_got (plain (form_found s around (expr at x))) (map_wanted (blamed around at x))
-  as_value around at x a = ap (λ f. on_got (plain f) (map_wanted (blamed around at x))) (one_same around (expr at x) a)
+      → on_got (value_within u around (expr at x)) (map_wanted (blamed around at x)) ≡ on_got (value_within s around (expr at x)) (map_wanted (blamed around at x))
+  as_value around at x a = ap (λ f. on_got (undeclared_at_fault f) (map_wanted (blamed around at x))) (one_same around (expr at x) a)
 
   mutual
     pub offers_same : (around : Option (List ℕ)) (e : Form) → SeesAllSame bound m n (mentions_of holds e) → offers_in u around e ≡ offers_in s around e
@@ -86,8 +84,8 @@ module _
 
     node_same : (around : Option (List ℕ)) (at : List ℕ) (x : Node) → SeesAllSame bound m n (node_mentions holds x) → node_offers u around at x ≡ node_offers s around at x
     node_same around at (node.dict fs) a =
-        ap (λ os. got (record { members = os; whole = stop_in (plain (form_found u around (expr at (node.dict fs)))) })) (offered_same around fs a)
-        ∙ ap (λ f. got (record { members = offered_fields s around fs; whole = stop_in (plain f) })) (one_same around (expr at (node.dict fs)) a)
+        ap (λ os. got (record { members = os; whole = stop_in (value_within u around (expr at (node.dict fs))) })) (offered_same around fs a)
+        ∙ ap (λ f. got (record { members = offered_fields s around fs; whole = stop_in (undeclared_at_fault f) })) (one_same around (expr at (node.dict fs)) a)
     node_same around at (choice name y z) a =
         branch_same at name (value_at name conds) (offers_in s (Some at) y) (offers_in s (Some at) z) (offers_in u (Some at) y) (offers_in u (Some at) z)
         (mentions_of holds y) (mentions_of holds z) (offers_same (Some at) y) (offers_same (Some at) z) a
@@ -118,8 +116,8 @@ module _
   every h (by_attribute name ∷ ms) = (h name, every h ms)
 
   module _ (h : (id : List ℕ) → value_at id n ≡ value_at id m) where
-    value_every : (e : Form) → value_in u e ≡ value_in s e
-    value_every e = ap plain (one_same None e (every h (mentions_of holds e)))
+    value_every : (e : Form) → value_of u e ≡ value_of s e
+    value_every e = ap undeclared_at_fault (one_same None e (every h (mentions_of holds e)))
 
     pub given_every : (form : Option Form) → given_in u form ≡ given_in s form
     given_every None = refl
@@ -165,11 +163,11 @@ hidden g name (p ∷ ps) h = by_name (bytes_eq name p.name) h (hidden g name ps)
   by_name false k ih = ih k
 
 -- what stands under a name is among all
-in_all : (t : Stack) (id : List ℕ) (ids : List (List ℕ)) → In (map (path_in t.path) ids) (those (value_at id (first_stands t ids)))
+in_all : (t : Stack) (id : List ℕ) (ids : List (List ℕ)) → In (map (path_in t.path) ids) (unwrap_or (value_at id (first_stands t ids)) [])
 in_all t id [] q h = absurd (true≢false (sym h))
 in_all t id (k ∷ ids) q h = by_name (bytes_eq id k) h (in_all t id ids q) where
-  by_name : (b : Bool) → is_among q (those (cond b (Some (path_in t.path k ∷ [])) (value_at id (first_stands t ids)))) ≡ true
-      → (is_among q (those (value_at id (first_stands t ids))) ≡ true → is_among q (map (path_in t.path) ids) ≡ true) → is_among q ((path_in t.path k ∷ []) ++ map (path_in t.path) ids) ≡ true
+  by_name : (b : Bool) → is_among q (unwrap_or (cond b (Some (path_in t.path k ∷ [])) (value_at id (first_stands t ids))) []) ≡ true
+      → (is_among q (unwrap_or (value_at id (first_stands t ids)) []) ≡ true → is_among q (map (path_in t.path) ids) ≡ true) → is_among q ((path_in t.path k ∷ []) ++ map (path_in t.path) ids) ≡ true
   by_name true g ih = among_first q (path_in t.path k ∷ []) (map (path_in t.path) ids) g
   by_name false g ih = among_second q (path_in t.path k ∷ []) (map (path_in t.path) ids) (ih g)
 
@@ -185,13 +183,13 @@ module _ (source : Source) (a b : Seen) where
   seen_same path g = let e = g path (ap (λ t. t || false) ((bytes_eq-Decides path path).1 refl)) in both_seen (value_at path a) (value_at path b) e.0 e.1
 
   abbrev pub SightsRest : StandsFor → Sights → Sights → Type 0
-  SightsRest stands m n = (id : List ℕ) → AgreeAt (those (value_at id stands)) a b → value_at id n ≡ value_at id m
+  SightsRest stands m n = (id : List ℕ) → AgreeAt (unwrap_or (value_at id stands) []) a b → value_at id n ≡ value_at id m
 
   pub first_rest : (t : Stack) (conds : Verdicts) (ids : List (List ℕ)) → SightsRest (first_stands t ids) (first_sights t conds a ids) (first_sights t conds b ids)
   first_rest t conds [] id g = refl
   first_rest t conds (k ∷ ids) id g = by_name (bytes_eq id k) g (first_rest t conds ids id) where
-    by_name : (e : Bool) → AgreeAt (those (cond e (Some (path_in t.path k ∷ [])) (value_at id (first_stands t ids)))) a b
-        → (AgreeAt (those (value_at id (first_stands t ids))) a b → value_at id (first_sights t conds b ids) ≡ value_at id (first_sights t conds a ids))
+    by_name : (e : Bool) → AgreeAt (unwrap_or (cond e (Some (path_in t.path k ∷ [])) (value_at id (first_stands t ids))) []) a b
+        → (AgreeAt (unwrap_or (value_at id (first_stands t ids)) []) a b → value_at id (first_sights t conds b ids) ≡ value_at id (first_sights t conds a ids))
         → cond e (Some (seen_as (value_at (path_in t.path k) b))) (value_at id (first_sights t conds b ids)) ≡ cond e (Some (seen_as (value_at (path_in t.path k) a))) (value_at id (first_sights t conds a ids))
     by_name true h ih = ap (λ x. Some x) (seen_same (path_in t.path k) h)
     by_name false h ih = ih h
@@ -199,8 +197,8 @@ module _ (source : Source) (a b : Seen) where
   pub put_rest : (stands : StandsFor) (m n : Sights) (k : List ℕ) (ps : List (List ℕ)) (x y : Sight) → SightsRest stands m n → (AgreeAt ps a b → y ≡ x)
       → SightsRest (put k ps stands) (put k x m) (put k y n)
   put_rest stands m n k ps x y h e id g =
-      value_put id k y n ∙ either (bytes_eq id k) (subst (λ o. AgreeAt (those o) a b) (value_put id k ps stands) g) ∙ sym (value_put id k x m) where
-        either : (t : Bool) → AgreeAt (those (cond t (Some ps) (value_at id stands))) a b → cond t (Some y) (value_at id n) ≡ cond t (Some x) (value_at id m)
+      value_put id k y n ∙ either (bytes_eq id k) (subst (λ o. AgreeAt (unwrap_or o []) a b) (value_put id k ps stands) g) ∙ sym (value_put id k x m) where
+        either : (t : Bool) → AgreeAt (unwrap_or (cond t (Some ps) (value_at id stands)) []) a b → cond t (Some y) (value_at id n) ≡ cond t (Some x) (value_at id m)
         either true k = ap (λ z. Some z) (e k)
         either false k = h id k
 
@@ -282,8 +280,8 @@ module _ (source : Source) (a b : Seen) where
         → AgreeAt r.needs a b → member_props t.path (over t conds h n) r ≡ member_props t.path (over t conds g m) r
     member_rests stands m n r around c k agree =
         ap (λ x. member_props t.path (over t conds x n) r) (same (λ q i. agree q (around q i)))
-        ∙ ap (unless_flaw r.unnamed)
-        (props_same t.template (settings_for t.template.params g) conds (pseudo_of t.name source.number) source.imports m n t.path r.props
+        ∙ ap (λ ps. unless_flaw r.unnamed (evaluated_in t.path ps))
+        (props_same t.template (settings_for t.template.params g) conds (pseudo_of t.name source.number) source.imports m n r.props
         (all_agree t.template g r.needs stands m n k agree (fields_mentions (holds_in conds) (fields_of r.props)) c))
 
     pub inside_outputs : (own : List (List ℕ)) (stands : StandsFor) (m n : Sights) (i : Inside) → In own needs → CoversInside t.template conds own stands i → SightsRest stands m n

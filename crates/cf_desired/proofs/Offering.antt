@@ -2,8 +2,8 @@
 use Rattle.std.proofs.Common.{◌≡◌, ℕ, List, [], ◌∷◌, ◌++◌, true, Option, Some, None, refl, sym, ap, ◌∙◌, option_map, map, filter_map, append_assoc, append-nil, drop, length}
 use Rattle.std.specs.Option.{option_or, option_map_or}
 use Rattle.std.specs.List.{cons_option}
-use Rattle.cf_eval.specs.Env.{plain, scope_in}
-use Rattle.cf_eval.specs.Value.{form_found}
+use Rattle.cf_eval.specs.Env.{scope_in}
+use Rattle.cf_eval.specs.Value.{value_within}
 use Rattle.cf_tree.proofs.Order.{ascends_map}
 use Rattle.cf_tree.specs.Datum.{Data, members_of}
 use Rattle.std.specs.Prelude.{if◌then◌else◌}
@@ -13,10 +13,9 @@ use Rattle.cf_tree.specs.declared.bound.Verdict.{Verdict}
 use Rattle.cf_tree.specs.declared.expr.ExprNode.{ExprNode}
 use Rattle.cf_tree.specs.declared.expr.ExprNode.TheVariants as kept
 use Rattle.cf_eval.specs.declared.env.Env as given
-use Rattle.cf_eval.specs.ScopeOf.{verdict_of}
 use Rattle.cf_tree.specs.Keys.{ascends, value_at}
 use Rattle.cf_eval.specs.Outcome.{Stop, got, later, bad, undecided, on_got}
-use Rattle.cf_eval.specs.Scope.{Scope, decided_at}
+use Rattle.cf_eval.specs.Scope.{Scope, decided_at, verdict_of}
 use Rattle.cf_eval.specs.Texts.{Found}
 use Rattle.cf_param.specs.declared.offered.Piece.{Piece}
 use Rattle.cf_param.specs.declared.offered.Piece.TheVariants.{Text, Later}
@@ -109,7 +108,7 @@ pieces_in_order os h = ap ascends (pieces_kept os) ∙ kept_ascend piece_from (m
 
 -- the names of what is offered are those of the map
 abbrev found_form : Scope → Option (List ℕ) → List ℕ × Form → List ℕ × Found
-found_form s around p = (p.0, plain (form_found s around p.1))
+found_form s around p = (p.0, value_within s around p.1)
 
 fields_named : (s : Scope) (around : Option (List ℕ)) (ps : List (List ℕ × Form)) → map named_found (offered_fields s around (fields_of ps)) ≡ map (found_form s around) ps
 fields_named s around [] = refl

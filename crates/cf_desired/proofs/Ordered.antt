@@ -12,8 +12,7 @@ use Rattle.cf_eval.specs.declared.got.Got.TheVariants as it
 use Rattle.cf_eval.specs.Gives.{got_found}
 use Rattle.cf_eval.specs.Scope.{Scope}
 use Rattle.cf_eval.specs.Texts.{Found}
-use Rattle.cf_desired.specs.declared.wanted.Evaluated.{Evaluated}
-use Rattle.cf_desired.specs.Stack.{value_in}
+use Rattle.cf_eval.specs.Value.{PropsFound, value_of}
 use Rattle.cf_desired.specs.Kept.{prop_taken}
 use Rattle.cf_desired.proofs.Properties.{next_prop, props_after}
 use Rattle.cf_desired.proofs.Kept.{both, past, rest_ascends}
@@ -72,18 +71,18 @@ same_names known name v w h =
     sym (named_ascend (known ++ (name, w) ∷ [])) ∙ ap ascends (map-append nameless known ((name, w) ∷ []) ∙ sym (map-append nameless known ((name, v) ∷ []))) ∙ named_ascend (known ++ (name, v) ∷ []) ∙ h
 
 -- one more property in the order of the template
-pub prop_step : (s : Scope) (stack : List ℕ) (known after : List (List ℕ × Option Data)) (p : List ℕ × Form) (left : List (List ℕ × Form)) (g : Got) (whole : Evaluated)
-    → value_in s p.1 ≡ got_found g → whole ≡ props_after s stack (p ∷ left) known → InOrder known (p ∷ left) → after ≡ known ++ prop_taken p.0 g
-    → (whole ≡ props_after s stack left after) × InOrder after left
-prop_step s stack known after p left (it.Value v) whole e h o u = (
-  h ∙ ap (λ (f : Found). next_prop stack known p.0 f (props_after s stack left)) e ∙ ap (props_after s stack left) (sym u),
+pub prop_step : (s : Scope) (known after : List (List ℕ × Option Data)) (p : List ℕ × Form) (left : List (List ℕ × Form)) (g : Got) (whole : PropsFound)
+    → value_of s p.1 ≡ got_found g → whole ≡ props_after s (p ∷ left) known → InOrder known (p ∷ left) → after ≡ known ++ prop_taken p.0 g
+    → (whole ≡ props_after s left after) × InOrder after left
+prop_step s known after p left (it.Value v) whole e h o u = (
+  h ∙ ap (λ (f : Found). next_prop known p.0 f (props_after s left)) e ∙ ap (props_after s left) (sym u),
   subst (λ (k : List (List ℕ × Option Data)). InOrder k left) (sym u) (one_taken known p left (Some (datum_of v)) o),
 )
-prop_step s stack known after p left it.NoValue whole e h o u = (
-  h ∙ ap (λ (f : Found). next_prop stack known p.0 f (props_after s stack left)) e ∙ ap (props_after s stack left) (sym (u ∙ append-nil known)),
+prop_step s known after p left it.NoValue whole e h o u = (
+  h ∙ ap (λ (f : Found). next_prop known p.0 f (props_after s left)) e ∙ ap (props_after s left) (sym (u ∙ append-nil known)),
   subst (λ (k : List (List ℕ × Option Data)). InOrder k left) (sym (u ∙ append-nil known)) (one_left known p left o),
 )
-prop_step s stack known after p left it.Later whole e h o u = (
-  h ∙ ap (λ (f : Found). next_prop stack known p.0 f (props_after s stack left)) e ∙ ap (props_after s stack left) (sym u),
+prop_step s known after p left it.Later whole e h o u = (
+  h ∙ ap (λ (f : Found). next_prop known p.0 f (props_after s left)) e ∙ ap (props_after s left) (sym u),
   subst (λ (k : List (List ℕ × Option Data)). InOrder k left) (sym u) (one_taken known p left None o),
 )

@@ -8,8 +8,7 @@ use Rattle.cf_tree.specs.declared.template.Out.{Out}
 use Rattle.cf_tree.specs.declared.template.Template.{Template}
 use Rattle.cf_eval.specs.declared.env.OutputSight.TheVariants as output
 use Rattle.cf_eval.specs.Outcome.{Outcome}
-use Rattle.cf_eval.specs.Scope.{Scope}
-use Rattle.cf_eval.specs.ScopeOf.{setting_of}
+use Rattle.cf_eval.specs.Scope.{Scope, setting_of, resource_scope}
 use Rattle.cf_eval.specs.Texts.{as_text}
 use Rattle.cf_graph.specs.Mentions.{Mention, by_ref, by_attribute, mentions_of}
 use Rattle.cf_graph.specs.Needs.{holds_in}
@@ -17,7 +16,8 @@ use Rattle.cf_desired.specs.Given.{Offers, given_by, given_in, offers_of, offers
 use Rattle.cf_desired.specs.Met.{exporting_as, exporting_in, offers_flaw, output_at, outputs_wanted}
 use Rattle.cf_desired.specs.Rests.{SeesAllSame}
 use Rattle.cf_desired.specs.Seeing.{broken_at, export_stop, export_wanted, is_output_made, output_attribute, output_seen, output_sight, output_sights, text_in, text_known, unnamed_output}
-use Rattle.cf_desired.specs.Stack.{Stack, Settings, Sights, Verdicts, flaw_at, props_in, resource_scope, stop_in, value_in, with_prop}
+use Rattle.cf_desired.specs.Stack.{Stack, Settings, Sights, Verdicts, evaluated_in, flaw_at, stop_in}
+use Rattle.cf_eval.specs.Value.{props_of, value_of, with_prop}
 use Rattle.cf_desired.specs.Valued.{member_props, unless_flaw}
 use Rattle.cf_desired.specs.Work.{Member}
 use Rattle.cf_desired.proofs.Mentions.{value_rests}
@@ -25,7 +25,7 @@ use Rattle.cf_desired.proofs.NeedsMatter.{offers_same}
 use Rattle.std.specs.Prelude.{cond, filter}
 
 pub record SameScope (s u : Scope) : Type 0 where
-  pub value : (e : Form) → value_in s e ≡ value_in u e
+  pub value : (e : Form) → value_of s e ≡ value_of u e
   pub offers : (form : Option Form) → offers_of s form ≡ offers_of u form
 
 all_agree : (bound : Settings) (m n : Sights) → ((q : List ℕ) → value_at q n ≡ value_at q m) → (xs : List Mention) → SeesAllSame bound m n xs
@@ -35,16 +35,16 @@ all_agree bound m n h (by_attribute name ∷ xs) = (h name, all_agree bound m n 
 
 module _ (t : Template) (bound settings : Settings) (conds : Verdicts) (pseudo told : List (List ℕ × Data)) (imports : List (List ℕ × List ℕ)) (n m : Sights)
     (b : (name : List ℕ) → value_at name bound ≡ value_at name settings) (p : pseudo ≡ told) (h : (q : List ℕ) → value_at q n ≡ value_at q m) where
-  bound_same : resource_scope t bound conds pseudo n imports ≡ resource_scope t settings conds told n imports
-  bound_same = λ i. record (resource_scope t bound conds pseudo n imports) { params = λ name. option_map setting_of (b name i); pseudo = p i }
+  bound_same : resource_scope t.mappings bound conds pseudo n imports ≡ resource_scope t.mappings settings conds told n imports
+  bound_same = λ i. record (resource_scope t.mappings bound conds pseudo n imports) { params = λ name. option_map setting_of (b name i); pseudo = p i }
 
-  seen_same : (form : Option Form) → offers_of (resource_scope t settings conds told n imports) form ≡ offers_of (resource_scope t settings conds told m imports) form
+  seen_same : (form : Option Form) → offers_of (resource_scope t.mappings settings conds told n imports) form ≡ offers_of (resource_scope t.mappings settings conds told m imports) form
   seen_same None = refl
   seen_same (Some f) = offers_same t settings conds told imports m n None f (all_agree settings m n h (mentions_of (holds_in conds) f))
 
-  pub scope_same : SameScope (resource_scope t bound conds pseudo n imports) (resource_scope t settings conds told m imports)
+  pub scope_same : SameScope (resource_scope t.mappings bound conds pseudo n imports) (resource_scope t.mappings settings conds told m imports)
   scope_same = record {
-    value = λ e. ap (λ (s : Scope). value_in s e) bound_same ∙ value_rests t settings conds told imports m n e (all_agree settings m n h (mentions_of (holds_in conds) e));
+    value = λ e. ap (λ (s : Scope). value_of s e) bound_same ∙ value_rests t settings conds told imports m n e (all_agree settings m n h (mentions_of (holds_in conds) e));
     offers = λ form. ap (λ (s : Scope). offers_of s form) bound_same ∙ seen_same form;
   }
 
@@ -55,12 +55,12 @@ module _ (s u : Scope) (same : SameScope s u) where
   pub flaw_same : (path : List ℕ) (form : Option Form) → offers_flaw path s form ≡ offers_flaw path u form
   flaw_same path form = ap (λ (o : Outcome Offers). option_map (flaw_at path) (offers_stop o)) (same.offers form)
 
-  props_same : (path : List ℕ) (ps : List (List ℕ × Form)) → props_in path s ps ≡ props_in path u ps
-  props_same path [] = refl
-  props_same path (p ∷ ps) = λ i. with_prop path p.0 (same.value p.1 i) (props_same path ps i)
+  props_same : (ps : List (List ℕ × Form)) → props_of s ps ≡ props_of u ps
+  props_same [] = refl
+  props_same (p ∷ ps) = λ i. with_prop p.0 (same.value p.1 i) (props_same ps i)
 
   pub evaluated_same : (path : List ℕ) (m : Member) → member_props path s m ≡ member_props path u m
-  evaluated_same path m = ap (unless_flaw m.unnamed) (props_same path m.props)
+  evaluated_same path m = ap (λ r. unless_flaw m.unnamed (evaluated_in path r)) (props_same m.props)
 
   text_same : (e : Form) → text_in s e ≡ text_in u e
   text_same e = ap (as_text (place_of e)) (same.value e)

@@ -20,7 +20,6 @@ use Rattle.cf_tree.specs.declared.template.Param.{Param}
 use Rattle.cf_tree.specs.declared.template.Res.{Res}
 use Rattle.cf_tree.specs.declared.template.Template.{Template}
 use Rattle.cf_eval.specs.declared.fault.EvalWhy.TheVariants.{WrongKind}
-use Rattle.cf_eval.specs.ScopeOf.{setting_of, verdict_of}
 use Rattle.cf_param.specs.Binding.{binding_of, bound_to, settings_of, undeclared, breach_of, constrained_texts, default_of}
 use Rattle.cf_param.specs.Binding as binding
 use Rattle.cf_param.specs.declared.fault.BindFault.{BindFault}
@@ -51,19 +50,18 @@ use Rattle.std.proofs.lemmas.Slice.Eq.{bytes_eq-Decides}
 use Rattle.cf_desired.specs.Given.{Given, pieces, unknown, Offered, Offers, offers_in, node_offers, offers_of, offered_fields, offered_members, map_wanted, parts_stop, kind_stop, kinds_stop, offers_stop, given_in, given_by, given_pieces, with_piece, piece_text, or_unknown, settings_for, error_of, bind_fault}
 use Rattle.cf_eval.specs.Outcome.{Outcome, Stop, got, later, bad, fault, undecided, below, on_got}
 use Rattle.cf_eval.specs.declared.env.OutputSight.TheVariants as output
-use Rattle.cf_eval.specs.Scope.{Scope, decided_at}
+use Rattle.cf_eval.specs.Scope.{Scope, decided_at, setting_of, verdict_of}
 use Rattle.cf_desired.specs.Shape.{StandsFor, first_stands, paths_below, paths_inside, paths_in, given_root, shape_of}
 use Rattle.cf_eval.specs.declared.env.Sight.{Sight}
 use Rattle.cf_eval.specs.declared.env.Sight.TheVariants as sight
-use Rattle.cf_desired.specs.Stack.{Stack, Verdicts, Settings, Sights, Scoping, scoping, value_in, stop_in, flaw_at, with_prop, props_in}
-use Rattle.cf_eval.specs.Env.{plain}
+use Rattle.cf_desired.specs.Stack.{Stack, Verdicts, Settings, Sights, Scoping, evaluated_in, scoping, stop_in, flaw_at}
 use Rattle.cf_eval.specs.Texts.{Found}
-use Rattle.cf_eval.specs.Value.{form_found, blamed}
+use Rattle.cf_eval.specs.Value.{PropsFound, form_found, blamed, value_of, with_prop, props_of, value_within}
 use Rattle.cf_desired.specs.Work.{Member, Nesting, Work, Inside, Body, no_work, resource, nested, shut, barred, halted, opened}
 use Rattle.cf_desired.specs.Work as inside
 use Rattle.cf_desired.proofs.Covers.{AreDecided, CoversBody, CoversInside, Covers, shape_covered}
 use Rattle.cf_desired.proofs.Flawless.{HasNone, none_in}
-use Rattle.cf_desired.proofs.Sure.{IsSure, IsTold, AllTold, IsFull, IsKnown, as_text_sure, form_sure, plain_sure, told_names}
+use Rattle.cf_desired.proofs.Sure.{IsSure, IsTold, AllTold, IsFull, IsKnown, as_text_sure, form_sure, undeclared_sure, told_names}
 
 mapped : {A B : Type 0} (f : A → B) (o : Option A) → is_some o ≡ true → is_some (option_map f o) ≡ true
 mapped f None h = absurd (true≢false (sym h))
@@ -103,10 +101,10 @@ branch_sure false x y h k = k
 module _ (s : Scope) (known : IsKnown s) where
   fields_offered : (around : Option (List ℕ)) (fs : Fields) → AllSure (offered_fields s around fs)
   fields_offered around no_fields = tt
-  fields_offered around (field k e fs) = (plain_sure (form_found s around e) (form_sure s around e known), fields_offered around fs)
+  fields_offered around (field k e fs) = (undeclared_sure (form_found s around e) (form_sure s around e known), fields_offered around fs)
 
-  value_offered : (around : Option (List ℕ)) (at : List ℕ) (x : Node) → OffersSure (on_got (plain (form_found s around (expr at x))) (map_wanted (blamed around at x)))
-  value_offered around at x = offers_then (plain (form_found s around (expr at x))) (map_wanted (blamed around at x)) (plain_sure (form_found s around (expr at x)) (form_sure s around (expr at x) known)) (map_sure (blamed around at x))
+  value_offered : (around : Option (List ℕ)) (at : List ℕ) (x : Node) → OffersSure (on_got (value_within s around (expr at x)) (map_wanted (blamed around at x)))
+  value_offered around at x = offers_then (value_within s around (expr at x)) (map_wanted (blamed around at x)) (undeclared_sure (form_found s around (expr at x)) (form_sure s around (expr at x) known)) (map_sure (blamed around at x))
 
   mutual
     offers_sure : (around : Option (List ℕ)) (e : Form) → OffersSure (offers_in s around e)
@@ -291,7 +289,7 @@ module _ (source : Source) (seen : Seen) where
   -- the outputs of a stack over a known scope
   module _ (s : Scope) (known : IsKnown s) where
     text_sure : (e : Form) → IsSure (text_in s e)
-    text_sure e = as_text_sure (place_of e) (value_in s e) (plain_sure (form_found s None e) (form_sure s None e known))
+    text_sure e = as_text_sure (place_of e) (value_of s e) (undeclared_sure (form_found s None e) (form_sure s None e known))
 
     got_text : (x : Outcome (List ℕ)) → IsSure x → stop_in x ≡ None → is_some (text_known x) ≡ true
     got_text (got t) h k = refl
@@ -300,18 +298,13 @@ module _ (source : Source) (seen : Seen) where
 
     one_told : (t : Stack) (conds : Verdicts) (o : Out) → IsTold (Some (output_sight t conds s o))
     one_told t conds o = by_made (is_output_made conds o) where
-      broken : (w : Stop) → IsTold (Some (broken_at t.path w))
-      broken (fault why at) = tt
-      broken (undecided name at) = tt
-      broken (below why stack at) = tt
-
       made : (v : Option (List ℕ)) → is_some v ≡ true → IsTold (Some (output.Made v))
       made None h = absurd (true≢false (sym h))
       made (Some v) h = tt
 
       by_stop : (w : Option Stop) → (w ≡ None → stop_in (text_in s o.value) ≡ None) → IsTold (Some (option_map_or (broken_at t.path) w (output.Made (text_known (text_in s o.value)))))
       by_stop None h = made (text_known (text_in s o.value)) (got_text (text_in s o.value) (text_sure o.value) (h refl))
-      by_stop (Some w) h = broken w
+      by_stop (Some w) h = tt
 
       by_made : (b : Bool) → IsTold (Some (cond b (option_map_or (broken_at t.path) (output_stop conds s o) (output.Made (text_known (text_in s o.value)))) output.NotMade))
       by_made true =
@@ -324,24 +317,24 @@ module _ (source : Source) (seen : Seen) where
     all_told t conds (o ∷ os) = (one_told t conds o, all_told t conds os)
 
     -- and properties
-    prop_settled : (path name : List ℕ) (x : Found) (r : Evaluated) → IsSure x → is_settled r ≡ true → is_settled (with_prop path name x r) ≡ true
+    prop_settled : (path name : List ℕ) (x : Found) (r : PropsFound) → IsSure x → is_settled (evaluated_in path r) ≡ true → is_settled (evaluated_in path (with_prop name x r)) ≡ true
     prop_settled path name (bad w) r h k = refl
-    prop_settled path name (got None) (flawed f) h k = refl
-    prop_settled path name (got None) (evaluated ps) h k = k
-    prop_settled path name (got (Some d)) (flawed f) h k = refl
-    prop_settled path name (got (Some d)) (evaluated ps) h k = both (known_props_from ps) k where
+    prop_settled path name (got None) (Err f) h k = refl
+    prop_settled path name (got None) (Ok ps) h k = k
+    prop_settled path name (got (Some d)) (Err f) h k = refl
+    prop_settled path name (got (Some d)) (Ok ps) h k = both (known_props_from ps) k where
       both : (o : Option (List (List ℕ × Data))) → is_some o ≡ true → is_some (option_map (λ rest. (name, d) ∷ rest) o) ≡ true
       both None g = absurd (true≢false (sym g))
       both (Some ds) g = refl
     prop_settled path name later r h k = absurd h
 
-    pub props_settled : (path : List ℕ) (ps : List (List ℕ × Form)) → is_settled (props_in path s ps) ≡ true
+    pub props_settled : (path : List ℕ) (ps : List (List ℕ × Form)) → is_settled (evaluated_in path (props_of s ps)) ≡ true
     props_settled path [] = refl
-    props_settled path (p ∷ ps) = prop_settled path p.0 (value_in s p.1) (props_in path s ps) (plain_sure (form_found s None p.1) (form_sure s None p.1 known)) (props_settled path ps)
+    props_settled path (p ∷ ps) = prop_settled path p.0 (value_of s p.1) (props_of s ps) (undeclared_sure (form_found s None p.1) (form_sure s None p.1 known)) (props_settled path ps)
 
     member_known : (path : List ℕ) (m : Member) → HasNone (map (λ f. a_flaw f) (flaws_of (member_props path s m))) → is_some (right_of (wanted_of (m, member_props path s m))) ≡ true
     member_known path m h = right (member_props path s m) (unflawed (member_props path s m) h (settled m.unnamed)) where
-      settled : (f : Option Flaw) → is_settled (unless_flaw f (props_in path s m.props)) ≡ true
+      settled : (f : Option Flaw) → is_settled (unless_flaw f (evaluated_in path (props_of s m.props))) ≡ true
       settled None = props_settled path m.props
       settled (Some f) = refl
 

@@ -1,6 +1,6 @@
 -- Names in order are the same where the same names stand among them; so what a resource needs can be had from the order of work.
 use Rattle.std.proofs.Common.{◌≡◌, ℕ, List, [], ◌∷◌, ◌++◌, Bool, true, false, ◌&&◌, ◌||◌, ◌⊎◌, inl, inr, Option, Some, None, refl, sym, ap, subst, ◌∙◌, true≢false, filter, fold, map}
-use Rattle.std.specs.Prelude.{cond, is_some}
+use Rattle.std.specs.Prelude.{cond, is_some, unwrap_or}
 use Rattle.std.specs.Cmp.{second_so}
 use Rattle.std.specs.Ordering.{nat_cmp, is_lt, ordering_reverse}
 use Rattle.std.specs.declared.cmp.Ordering.{Ordering}
@@ -12,7 +12,7 @@ use Rattle.cf_tree.specs.Keys.{ascends, ascends_from, bytes_lt, value_at}
 use Rattle.cf_tree.specs.declared.template.Res.{Res}
 use Rattle.cf_tree.proofs.Lookups.{value_below}
 use Rattle.cf_tree.proofs.Order.{ascends_put}
-use Rattle.cf_desired.specs.Shape.{put_name, in_order, StandsFor, those, stood_for}
+use Rattle.cf_desired.specs.Shape.{put_name, in_order, StandsFor, stood_for}
 use Rattle.cf_graph.specs.Needs.{is_made, referred_to, needs_in}
 use Rattle.cf_tree.specs.Lists.{is_among}
 use Rattle.cf_desired.proofs.OrderNeeds.{is_needed, among_order, among_first, among_second, either_so}
@@ -101,10 +101,10 @@ needed_referred conds names (r ∷ rs) id h = either (is_made conds r) (is_among
   either true false e k ih = ih k
   either false n e k ih = ih k
 
-all_stood : (all : List (List ℕ)) (stands : StandsFor) (ids : List (List ℕ)) → ((id : List ℕ) → is_among id ids ≡ true → In all (those (value_at id stands))) → In all (stood_for stands ids)
+all_stood : (all : List (List ℕ)) (stands : StandsFor) (ids : List (List ℕ)) → ((id : List ℕ) → is_among id ids ≡ true → In all (unwrap_or (value_at id stands) [])) → In all (stood_for stands ids)
 all_stood all stands [] h q g = absurd (true≢false (sym g))
-all_stood all stands (k ∷ ids) h q g = either (among_split q (those (value_at k stands)) (stood_for stands ids) g) (all_stood all stands ids (λ id m. h id (either_so (bytes_eq id k) _ m)) q) where
-  either : (is_among q (those (value_at k stands)) ≡ true) ⊎ (is_among q (stood_for stands ids) ≡ true) → (is_among q (stood_for stands ids) ≡ true → is_among q all ≡ true) → is_among q all ≡ true
+all_stood all stands (k ∷ ids) h q g = either (among_split q (unwrap_or (value_at k stands) []) (stood_for stands ids) g) (all_stood all stands ids (λ id m. h id (either_so (bytes_eq id k) _ m)) q) where
+  either : (is_among q (unwrap_or (value_at k stands) []) ≡ true) ⊎ (is_among q (stood_for stands ids) ≡ true) → (is_among q (stood_for stands ids) ≡ true → is_among q all ≡ true) → is_among q all ≡ true
   either (inl e) ih = h k (ap (λ b. b || is_among k ids) ((bytes_eq-Decides k k).1 refl)) q e
   either (inr e) ih = ih e
 
@@ -123,6 +123,6 @@ needs_by_order e conds stands r made =
     (with_around (stood_for stands (needs_in e.stack.template conds r)) (stood_for stands (referred_to e.stack.template conds r)) e.needs
     (all_stood _ stands (referred_to e.stack.template conds r) (λ id m. either id m (made id)))) where
       either : (id : List ℕ) → is_among id (referred_to e.stack.template conds r) ≡ true → (value_at id stands ≡ None) ⊎ (is_among id (map (λ x. x.name) (filter (is_made conds) e.stack.template.resources)) ≡ true)
-          → In (stood_for stands (needs_in e.stack.template conds r)) (those (value_at id stands))
-      either id m (inl none) = subst (λ o. In (stood_for stands (needs_in e.stack.template conds r)) (those o)) (sym none) (in_none (stood_for stands (needs_in e.stack.template conds r)))
+          → In (stood_for stands (needs_in e.stack.template conds r)) (unwrap_or (value_at id stands) [])
+      either id m (inl none) = subst (λ o. In (stood_for stands (needs_in e.stack.template conds r)) (unwrap_or o [])) (sym none) (in_none (stood_for stands (needs_in e.stack.template conds r)))
       either id m (inr among) = stood stands id (needs_in e.stack.template conds r) (is_needed e.stack.template conds id r m among)

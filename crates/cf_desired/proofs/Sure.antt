@@ -10,12 +10,11 @@ use Rattle.cf_tree.specs.Keys.{value_at, put}
 use Rattle.cf_tree.specs.SizeOf.{size_of}
 use Rattle.cf_tree.specs.declared.parts.Part.{Part}
 use Rattle.cf_tree.specs.declared.parts.Part.TheVariants.{Plain, Name}
-use Rattle.cf_eval.specs.Outcome.{Outcome, got, later, bad, fault, undecided, below, on_got, both, each, or_wrong}
+use Rattle.cf_eval.specs.Outcome.{Outcome, got, later, bad, fault, undecided, below, on_got, both, each, or_wrong, undeclared_at_fault}
 use Rattle.cf_eval.specs.Scope.{Scope, Beyond, open_to, closed_to}
 use Rattle.cf_eval.specs.Texts.{Found, known, text_of, members_in, index_of, wanted_text, wanted_list, wanted_index, as_text, as_list, within, most_bytes}
 use Rattle.cf_eval.specs.Functions.{or_fault, output_found, id_of, attribute_found, resource_ref, pseudo_ref, setting_found, ref_found, attribute_in, get_att_found, cut_found, name_found, piece_found, put_together, outcomes, sub_found, join_found, split_at, split_found, nth, select_found, paired, under_second, under_key, value_in_mapping, find_found, if_found, imported, import_found, base64_found}
 use Rattle.cf_eval.specs.Value.{named, pairs_found, dict_found, blamed, form_found, node_found, forms_found, fields_found}
-use Rattle.cf_eval.specs.Env.{plain}
 use Rattle.cf_eval.specs.declared.fault.EvalWhy.{EvalWhy}
 use Rattle.cf_eval.specs.declared.fault.EvalWhy.TheVariants.{TooBig, UnknownName, UnknownAttribute}
 use Rattle.cf_eval.specs.declared.env.OutputSight.{OutputSight}
@@ -300,9 +299,9 @@ mutual
   fields_sure s around no_fields k = tt
   fields_sure s around (field name e ps) k = (form_sure s around e k, fields_sure s around ps k)
 
-pub plain_sure : {A : Type 0} (x : Outcome A) → IsSure x → IsSure (plain x)
-plain_sure (got a) s = tt
-plain_sure later s = s
-plain_sure (bad (fault why at)) s = tt
-plain_sure (bad (undecided name at)) s = tt
-plain_sure (bad (below why stack at)) s = tt
+pub undeclared_sure : {A : Type 0} (x : Outcome A) → IsSure x → IsSure (undeclared_at_fault x)
+undeclared_sure (got a) s = tt
+undeclared_sure later s = s
+undeclared_sure (bad (fault why at)) s = tt
+undeclared_sure (bad (undecided name at)) s = tt
+undeclared_sure (bad (below why stack at)) s = tt

@@ -7,7 +7,7 @@ use Rattle.cf_funcs.specs.Pieces.{joined}
 use Rattle.cf_eval.specs.declared.fault.EvalWhy.{EvalWhy}
 use Rattle.cf_eval.specs.declared.fault.EvalWhy.TheVariants as why
 use Rattle.cf_graph.specs.declared.fault.GraphFault.{GraphFault}
-use Rattle.cf_graph.specs.declared.fault.GraphFault.TheVariants as tangled
+use Rattle.cf_graph.specs.declared.fault.GraphFault.TheVariants as graph
 use Rattle.cf_param.specs.declared.fault.BindFault.{BindFault}
 use Rattle.cf_param.specs.declared.fault.BindFault.TheVariants as fault
 use Rattle.cf_desired.specs.declared.flaw.Flaw.{Flaw}
@@ -31,10 +31,10 @@ words_text words = joined (codes " ") words
 abbrev pub names_text : List (List ℕ) → List ℕ
 names_text names = codes "[" ++ join_by quoted (codes ",") names ++ codes "]"
 
-abbrev pub tangle_text : GraphFault → List ℕ
-tangle_text (tangled.UnknownDependency from name) = words_text (codes "UnknownDependency" ∷ quoted from ∷ quoted name ∷ [])
-tangle_text (tangled.Circular cycle) = words_text (codes "Circular" ∷ names_text cycle ∷ [])
-tangle_text tangled.NoMemory = codes "NoMemory"
+abbrev pub graph_fault_text : GraphFault → List ℕ
+graph_fault_text (graph.UnknownDependency from name) = words_text (codes "UnknownDependency" ∷ quoted from ∷ quoted name ∷ [])
+graph_fault_text (graph.Circular cycle) = words_text (codes "Circular" ∷ names_text cycle ∷ [])
+graph_fault_text graph.NoMemory = codes "NoMemory"
 
 abbrev pub bind_text : BindFault → List ℕ
 bind_text (fault.Undeclared name) = words_text (codes "Undeclared" ∷ quoted name ∷ [])
@@ -52,7 +52,7 @@ bind_text fault.NoMemory = codes "NoMemory"
 abbrev pub flaw_text : Flaw → List ℕ
 flaw_text (flaw.Bind at fault) = words_text (codes "Bind" ∷ quoted at ∷ bind_text fault ∷ [])
 flaw_text (flaw.Eval w stack at) = words_text (codes "Eval" ∷ codes "Bad" ∷ why_name w ∷ quoted stack ∷ quoted at ∷ [])
-flaw_text (flaw.Graph at tangle) = words_text (codes "Graph" ∷ quoted at ∷ tangle_text tangle ∷ [])
+flaw_text (flaw.Graph at fault) = words_text (codes "Graph" ∷ quoted at ∷ graph_fault_text fault ∷ [])
 flaw_text (flaw.Shape path) = words_text (codes "Shape" ∷ quoted path ∷ [])
 flaw_text (flaw.TemplateMissing name) = words_text (codes "TemplateMissing" ∷ quoted name ∷ [])
 flaw_text (flaw.TooDeep path) = words_text (codes "TooDeep" ∷ quoted path ∷ [])

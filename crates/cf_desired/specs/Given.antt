@@ -17,10 +17,9 @@ use Rattle.cf_param.specs.declared.offered.Piece.TheVariants.{Text, Later}
 use Rattle.cf_eval.specs.Functions.{joined_by}
 use Rattle.cf_eval.specs.Outcome.{Outcome, Stop, got, later, bad, fault, on_got}
 use Rattle.cf_eval.specs.Scope.{Scope}
-use Rattle.cf_eval.specs.Env.{plain}
 use Rattle.cf_desired.specs.Stack.{Settings, stop_in}
 use Rattle.cf_eval.specs.Texts.{Found, text_of}
-use Rattle.cf_eval.specs.Value.{form_found, blamed}
+use Rattle.cf_eval.specs.Value.{blamed, value_within}
 
 -- a value as the text of a parameter
 abbrev pub with_text : Option (List ℕ) → Option (List (List ℕ)) → Option (List (List ℕ))
@@ -52,7 +51,7 @@ blamed_on around (expr at n) = blamed around at n
 abbrev pub offered_fields : Scope → Option (List ℕ) → Fields → List Offered
 offered_fields s around no_fields = []
 offered_fields s around (field k e fs) =
-    record { name = k; at = blamed_on around e; value = plain (form_found s around e) } ∷ offered_fields s around fs
+    record { name = k; at = blamed_on around e; value = value_within s around e } ∷ offered_fields s around fs
 
 -- the members of a map that is a value, an attribute say: for each of them the map is to blame
 abbrev pub offered_members : List ℕ → Members → List Offered
@@ -66,7 +65,7 @@ map_wanted at (Some d) = bad (fault WrongKind at)
 
 -- a value that is a map
 abbrev pub value_offers : Scope → Option (List ℕ) → Form → Outcome Offers
-value_offers s around (expr at n) = on_got (plain (form_found s around (expr at n))) (map_wanted (blamed around at n))
+value_offers s around (expr at n) = on_got (value_within s around (expr at n)) (map_wanted (blamed around at n))
 
 -- `Parameters`: a map, the taken branch of an Fn::If, or a value that is a map
 abbrev mutual
@@ -75,7 +74,7 @@ abbrev mutual
 
   pub node_offers : Scope → Option (List ℕ) → List ℕ → Node → Outcome Offers
   node_offers s around at (node.dict fs) =
-      got (record { members = offered_fields s around fs; whole = stop_in (plain (form_found s around (expr at (node.dict fs)))) })
+      got (record { members = offered_fields s around fs; whole = stop_in (value_within s around (expr at (node.dict fs))) })
   node_offers s around at (choice name y n) =
       on_got (s.decided at name) (λ b. if b then offers_in s (Some at) y else offers_in s (Some at) n)
   node_offers s around at n = value_offers s around (expr at n)

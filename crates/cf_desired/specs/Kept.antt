@@ -1,5 +1,6 @@
 -- What the code keeps: what its types stand for, and how its answers are those of the definitions (this project's own).
-use Rattle.std.specs.Prelude.{◌≡◌, ℕ, ◌+◌, ◌-◌, length, Bool, true, false, List, [], ◌∷◌, ◌++◌, Option, Some, None, Result, Ok, Err, codes, map, option_map}
+use Rattle.std.specs.Prelude.{◌≡◌, ℕ, ◌+◌, ◌-◌, length, Bool, true, false, List, [], ◌∷◌, ◌++◌, Option, Some, None, Result, Ok, Err, codes}
+use Rattle.std.specs.Prelude.{map, option_map}
 use Rattle.std.specs.Option.{option_or}
 use Rattle.cf_tree.specs.Datum.{Data}
 use Rattle.cf_tree.specs.Keys.{put, value_at}
@@ -8,11 +9,10 @@ use Rattle.cf_tree.specs.declared.source.Source.{Source}
 use Rattle.cf_eval.specs.declared.env.OutputSight.{OutputSight}
 use Rattle.cf_eval.specs.declared.fault.EvalFault.{EvalFault}
 use Rattle.cf_eval.specs.declared.fault.EvalFault.TheVariants as unvalued
-use Rattle.cf_eval.specs.declared.fault.EvalWhy.TheVariants.{UnknownName}
 use Rattle.cf_eval.specs.declared.got.Got.{Got}
 use Rattle.cf_eval.specs.declared.got.Got.TheVariants as it
-use Rattle.cf_eval.specs.Outcome.{Outcome, Stop, got, later, bad, fault, undecided, below}
-use Rattle.cf_eval.specs.Scope.{Scope}
+use Rattle.cf_eval.specs.Outcome.{Outcome, Stop, got, later, bad, stopped_at}
+use Rattle.cf_eval.specs.Scope.{Scope, resource_scope}
 use Rattle.cf_eval.specs.Texts.{Found}
 use Rattle.cf_param.specs.declared.fault.BindFault.{BindFault}
 use Rattle.cf_param.specs.declared.fault.BindFault.TheVariants as unbound
@@ -23,10 +23,10 @@ use Rattle.cf_desired.specs.declared.decision.Decision.TheVariants as decision
 use Rattle.cf_desired.specs.declared.flaw.Flaw.{Flaw}
 use Rattle.cf_desired.specs.declared.flaw.Flaw.TheVariants as flaw
 use Rattle.cf_desired.specs.declared.frames.Frame as kept_frame
-use Rattle.cf_desired.specs.declared.ground.Ground.{Ground}
+use Rattle.cf_desired.specs.declared.context.PlanContext.{PlanContext}
 use Rattle.cf_desired.specs.declared.laying.Contents.{Contents}
 use Rattle.cf_desired.specs.declared.laying.Count.{Count}
-use Rattle.cf_desired.specs.declared.laying.Course as kept_course
+use Rattle.cf_desired.specs.declared.laying.LaidSoFar as kept_so_far
 use Rattle.cf_desired.specs.declared.laying.Entering as kept_entering
 use Rattle.cf_desired.specs.declared.laying.Laid.{Laid}
 use Rattle.cf_desired.specs.declared.offers.Offer.{Offer}
@@ -41,24 +41,26 @@ use Rattle.cf_desired.specs.declared.shape.Shape as kept_shape
 use Rattle.cf_desired.specs.declared.shape.Stack as kept_stack
 use Rattle.cf_desired.specs.declared.shape.Turn as kept_turn
 use Rattle.cf_desired.specs.declared.shape.Turn.TheVariants as turn
-use Rattle.cf_desired.specs.declared.told.Blame.{Blame}
-use Rattle.cf_desired.specs.declared.told.Told.{Told}
-use Rattle.cf_desired.specs.declared.told.Told.TheVariants as told
-use Rattle.cf_desired.specs.declared.urls.Url as kept_url
+use Rattle.cf_desired.specs.declared.evaluations.Blame.{Blame}
+use Rattle.cf_desired.specs.declared.evaluations.TextFound.{TextFound}
+use Rattle.cf_desired.specs.declared.evaluations.TextFound.TheVariants as told
+use Rattle.cf_desired.specs.declared.template_name.TemplateName as kept_name
 use Rattle.cf_desired.specs.declared.wanted.Evaluated.{Evaluated}
-use Rattle.cf_desired.specs.declared.urls.Url.TheVariants as named
+use Rattle.cf_desired.specs.declared.template_name.TemplateName.TheVariants as named
 use Rattle.cf_desired.specs.Names.{path_in}
 use Rattle.cf_desired.specs.Given.{Given, Offers, given_by, kind_stop, offers_stop, pieces, unknown, with_piece}
 use Rattle.cf_desired.specs.Listed.{made_by}
-use Rattle.cf_desired.specs.Laying.{Path, Way, way_shut, way_barred, way_entered}
+use Rattle.cf_desired.specs.Laying.{LaidSoFar, Way, way_shut, way_barred, way_entered}
 use Rattle.cf_desired.specs.declared.laying.Way as kept_way
 use Rattle.cf_desired.specs.declared.laying.Way.TheVariants as way
 use Rattle.cf_tree.specs.Forms.{Form}
 use Rattle.cf_tree.specs.declared.template.Res.{Res}
 use Rattle.cf_desired.specs.Seeing.{Seen, by_names, output_sights, outputs_inside, outputs_of, seen_nested}
-use Rattle.cf_desired.specs.Shape.{Entering, entering_below, laid, Url, url, no_url, members_in, members_inside, paths_in, paths_inside, templates_in, templates_inside}
-use Rattle.cf_desired.specs.Stack.{Scoping, Stack, Verdicts, Sights, flaw_at, resource_scope, stop_in}
-use Rattle.cf_desired.specs.Turns.{Entry, Frame, Turn, the_root, through, a_resource, a_shut, a_barred, a_halted, an_opened, a_closed, frames_behind, turns_in, turns_inside, valued_at}
+use Rattle.cf_desired.specs.Shape.{Entering, entering_below, laid, members_in, members_inside, paths_in, paths_inside, templates_in}
+use Rattle.cf_desired.specs.Shape.{templates_inside}
+use Rattle.cf_desired.specs.Stack.{Scoping, Stack, Verdicts, Sights, flaw_at, stop_in}
+use Rattle.cf_desired.specs.Turns.{Entry, Frame, Turn, the_root, through, a_resource, a_shut, a_barred, a_halted, an_opened, a_closed}
+use Rattle.cf_desired.specs.Turns.{frames_behind, turns_in, turns_inside, valued_at}
 use Rattle.cf_desired.specs.Work.{Member, Nesting, Inside, Body, barred, shut}
 
 -- the given texts, as binding takes them
@@ -72,9 +74,7 @@ is_no_memory _ = false
 
 -- why an evaluation stops in the stack at a path, in which stack and at which place; and as a flaw
 abbrev pub blame_at : List ℕ → Stop → Blame
-blame_at stack (fault why at) = record { why = why; stack = stack; at = at }
-blame_at stack (undecided name at) = record { why = UnknownName; stack = stack; at = at }
-blame_at stack (below why path at) = record { why = why; stack = path; at = at }
+blame_at stack s = let w = stopped_at stack s in record { why = w.0; stack = w.1.0; at = w.1.1 }
 
 abbrev pub flaw_of_blame : Blame → Flaw
 flaw_of_blame b = flaw.Eval b.why b.stack b.at
@@ -90,10 +90,10 @@ prop_taken name it.NoValue = []
 prop_taken name it.Later = (name, None) ∷ []
 
 -- what is wanted as a text
-abbrev pub told_as : List ℕ → Outcome (List ℕ) → Told
-told_as stack (got t) = told.Text t
-told_as stack later = told.Later
-told_as stack (bad s) = told.Bad (blame_at stack s)
+abbrev pub text_found_as : List ℕ → Outcome (List ℕ) → TextFound
+text_found_as stack (got t) = told.Text t
+text_found_as stack later = told.Later
+text_found_as stack (bad s) = told.Bad (blame_at stack s)
 
 -- what is given for parameters, its fault, and what one more member adds
 abbrev pub offer_in : Offer → Given
@@ -109,9 +109,9 @@ pub record Takes (stack name at : List ℕ) (f : Found) (old new : Taken) : Type
   pub part : new.part ≡ option_or old.part (option_map (blame_at stack) (stop_in f))
   pub kind : new.kind ≡ option_or old.kind (option_map (blame_at stack) (kind_stop at f))
 
-abbrev pub url_in : kept_url.Url → Url
-url_in (named.Named name) = url name
-url_in (named.Flawed f) = no_url f
+abbrev pub template_name_in : kept_name.TemplateName → Result (List ℕ) Flaw
+template_name_in (named.Named name) = Ok name
+template_name_in (named.Flawed f) = Err f
 
 -- a stack, a template that is entered, a resource and a nested stack in the order of work, a turn
 abbrev pub kept_stack_in : kept_stack.Stack → Stack
@@ -184,8 +184,8 @@ valued_there source fs None = []
 valued_there source fs (Some turn) = valued_at source fs (turn_in turn)
 
 -- what resources and outputs are evaluated over
-abbrev pub scope_by : Ground → Sights → Scope
-scope_by g sights = resource_scope g.stack.now.template g.bound.now g.conds.now g.pseudo.now sights g.source.now.imports
+abbrev pub scope_by : PlanContext → Sights → Scope
+scope_by g sights = resource_scope g.stack.now.template.mappings g.bound.now g.conds.now g.pseudo.now sights g.source.now.imports
 
 -- whether work on a template can begin
 abbrev pub decision_in : Decision → Result (Verdicts × List (List ℕ × List (List ℕ))) Flaw
@@ -193,8 +193,8 @@ decision_in (decision.Halted f) = Err f
 decision_in (decision.Opened conds order) = Ok (conds, order.entries)
 
 -- what is known along the order of work
-abbrev pub course_in : kept_course.Course → Path
-course_in c = record {
+abbrev pub so_far_in : kept_so_far.LaidSoFar → LaidSoFar
+so_far_in c = record {
   turns = map turn_in c.turns;
   sights = c.sights;
   stands = c.stands;
@@ -222,16 +222,16 @@ IsWithin source seen s n c i l =
     (c.members + members_inside i) l
 
 -- what is in a template that was opened, where its work came to this
-abbrev pub IsLaidAlong : Stack → Verdicts → Scoping → List (List ℕ) → Path → Laid → Type 0
+abbrev pub IsLaidAlong : Stack → Verdicts → Scoping → List (List ℕ) → LaidSoFar → Laid → Type 0
 IsLaidAlong t conds over ids p l =
     IsLaidAs p.turns (by_names (output_sights t conds (over p.sights))) (map (path_in t.path) ids ++ p.paths) p.templates p.members l
 
-pub record IsContents (t : Stack) (conds : Verdicts) (over : Scoping) (ids : List (List ℕ)) (p : Path) (k : Contents) : Type 0 where
+pub record IsContents (t : Stack) (conds : Verdicts) (over : Scoping) (ids : List (List ℕ)) (p : LaidSoFar) (k : Contents) : Type 0 where
   pub made : k.made ≡ made_by conds t.template ids
   pub laid : IsLaidAlong t conds over ids p k.laid
 
--- the course behind a nested stack that was laid out
-pub record IsJoined (source : Source) (n : Nesting) (l : Laid) (old new : kept_course.Course) : Type 0 where
+-- what is laid out after a nested stack that was laid out
+pub record IsJoined (source : Source) (n : Nesting) (l : Laid) (old new : kept_so_far.LaidSoFar) : Type 0 where
   pub turns : map turn_in new.turns ≡ map turn_in old.turns ++ map turn_in l.turns
   pub sights : new.sights ≡ seen_nested source n l.outputs old.sights
   pub stands : new.stands ≡ put n.id (l.paths ++ n.needs) old.stands

@@ -2,7 +2,8 @@
 -- (this project's own).
 use Rattle.cf_template.proofs.Ordered.{AreOrdered}
 use Rattle.cf_desired.specs.Given.{Given, given_in}
-use Rattle.std.specs.Prelude.{◌≤◌, ⊤, codes, Bool, ℕ, zero, suc, ◌+◌, List, [], ◌∷◌, ◌++◌, Option, Some, None, Result, Ok, Err, length, nat_lt, if◌then◌else◌}
+use Rattle.std.specs.Prelude.{◌≤◌, ⊤, codes, Bool, ℕ, zero, suc, ◌+◌, List, [], ◌∷◌, ◌++◌, Option, Some, None, Result, Ok, Err, length}
+use Rattle.std.specs.Prelude.{nat_lt, if◌then◌else◌}
 use Rattle.std.specs.Option.{option_map_or}
 use Rattle.cf_tree.specs.Keys.{put, value_at}
 use Rattle.cf_tree.specs.declared.source.Source.{Source}
@@ -17,7 +18,8 @@ use Rattle.cf_desired.specs.Flaw.{graph_fault_as}
 use Rattle.cf_desired.specs.Listed.{sights_by, stands_by}
 use Rattle.cf_desired.specs.Names.{path_in, name_in}
 use Rattle.cf_desired.specs.Seeing.{Seen, nested_sight, outputs_inside}
-use Rattle.cf_desired.specs.Shape.{Entering, Laying, StandsFor, Url, url, no_url, url_of, has_stack_shape, first_later, in_order, verdicts_of, inside_of, laid, member_of, members_inside, paths_inside, stood_for, templates_inside, unnamed_at}
+use Rattle.cf_desired.specs.Shape.{Entering, Laying, StandsFor, template_name_of, has_stack_shape, first_later, in_order, verdicts_of}
+use Rattle.cf_desired.specs.Shape.{inside_of, laid, member_of, members_inside, paths_inside, stood_for, templates_inside, unnamed_at}
 use Rattle.cf_desired.specs.Stack.{Stack, Verdicts, Sights, Scoping, flaw_at}
 use Rattle.cf_desired.specs.Templates.{is_stack, template_named}
 use Rattle.cf_desired.specs.Turns.{Turn, a_resource, turns_inside}
@@ -46,7 +48,7 @@ nesting_by e stands ids r = record {
 
 -- what is known along the order of work: the turns so far, what is seen, what ids stand for, the paths in nested stacks, and how
 -- many templates and resources were entered
-pub record Path : Type 0 where
+pub record LaidSoFar : Type 0 where
   pub turns : List Turn
   pub sights : Sights
   pub stands : StandsFor
@@ -54,8 +56,8 @@ pub record Path : Type 0 where
   pub templates : ℕ
   pub members : ℕ
 
-abbrev pub path_begun : Seen → Stack → Verdicts → List (List ℕ) → ℕ → ℕ → Path
-path_begun seen t conds own templates members = record {
+abbrev pub none_laid : Seen → Stack → Verdicts → List (List ℕ) → ℕ → ℕ → LaidSoFar
+none_laid seen t conds own templates members = record {
   turns = [];
   sights = sights_by t conds seen own;
   stands = stands_by t own;
@@ -64,10 +66,10 @@ path_begun seen t conds own templates members = record {
   members = members + length t.template.resources;
 }
 
-abbrev pub with_member : Entering → Verdicts → Path → List (List ℕ) → Res → Path
+abbrev pub with_member : Entering → Verdicts → LaidSoFar → List (List ℕ) → Res → LaidSoFar
 with_member e conds c ids r = record c { turns = c.turns ++ a_resource (member_by e conds c.stands ids r) ∷ [] }
 
-abbrev pub with_inside : Source → Seen → Scope → Nesting → Inside → Path → Path
+abbrev pub with_inside : Source → Seen → Scope → Nesting → Inside → LaidSoFar → LaidSoFar
 with_inside source seen s n i c = record {
   turns = c.turns ++ turns_inside n i;
   sights = nested_sight source n (outputs_inside source seen s i) c.sights;
@@ -82,16 +84,16 @@ abbrev pub inside_by : Option Laying → Source → Entering → Scope → ℕ �
 inside_by lay source e s templates members n r o =
     inside_of lay source e s (record { sights = []; stands = []; templates = templates; members = members }) n r o
 
-abbrev pub with_nested : Option Laying → Source → Seen → Entering → Verdicts → Scoping → Path → List (List ℕ) → Res → Path
+abbrev pub with_nested : Option Laying → Source → Seen → Entering → Verdicts → Scoping → LaidSoFar → List (List ℕ) → Res → LaidSoFar
 with_nested lay source seen e conds over c ids r =
     with_inside source seen (over c.sights) (nesting_by e c.stands ids r)
     (inside_by lay source e (over c.sights) c.templates c.members (nesting_by e c.stands ids r) r (unnamed_at e.stack.path conds r)) c
 
-abbrev pub step_with : Option Laying → Source → Seen → Entering → Verdicts → Scoping → Path → List (List ℕ) → Res → Path
+abbrev pub step_with : Option Laying → Source → Seen → Entering → Verdicts → Scoping → LaidSoFar → List (List ℕ) → Res → LaidSoFar
 step_with lay source seen e conds over c ids r =
     if is_stack r then with_nested lay source seen e conds over c ids r else with_member e conds c ids r
 
-abbrev pub step_by : Option Laying → Source → Seen → Entering → Verdicts → Scoping → Path → List ℕ × List (List ℕ) → Path
+abbrev pub step_by : Option Laying → Source → Seen → Entering → Verdicts → Scoping → LaidSoFar → List ℕ × List (List ℕ) → LaidSoFar
 step_by lay source seen e conds over c m =
     option_map_or (step_with lay source seen e conds over c m.1) (resource_named m.0 e.stack.template) c
 
@@ -129,16 +131,16 @@ abbrev pub entered_way : Given → Result Template Flaw → Way
 entered_way g (Ok t) = way_entered t g
 entered_way g (Err f) = way_barred f
 
-abbrev pub url_way : ℕ → Source → List ℕ → ℕ → ℕ → Given → Url → Way
-url_way left source path templates members g (no_url f) = way_barred f
-url_way left source path templates members g (url name) =
+abbrev pub name_way : ℕ → Source → List ℕ → ℕ → ℕ → Given → Result (List ℕ) Flaw → Way
+name_way left source path templates members g (Err f) = way_barred f
+name_way left source path templates members g (Ok name) =
     entered_way g (entered_by left path name templates members (template_named name source))
 
 abbrev pub way_by : ℕ → Source → List ℕ → Scope → ℕ → ℕ → List ℕ → Res → Option Flaw → Way
 way_by left source stack s templates members path r (Some f) = way_shut f
 way_by left source stack s templates members path r None =
-    if has_stack_shape r then url_way left source path templates members (given_in s (value_at (codes "Parameters") r.props))
-    (url_of stack path s r)
+    if has_stack_shape r then name_way left source path templates members (given_in s (value_at (codes "Parameters") r.props))
+    (template_name_of stack path s r)
     else way_shut (flaw.Shape path)
 
 -- a template that is entered is within the limits, and has its resources in order

@@ -15,7 +15,8 @@ use Rattle.cf_desired.specs.declared.wanted.WantedOutput.{WantedOutput}
 use Rattle.cf_desired.specs.Given.{Given, given_in, settings_for, bind_fault, offers_of, offers_stop}
 use Rattle.cf_eval.specs.Outcome.{Outcome, got}
 use Rattle.cf_eval.specs.Scope.{Scope}
-use Rattle.cf_desired.specs.Seeing.{Seen, is_output_made, own_ids, first_sights, nested_sight, sights_after, outputs_inside, output_stop, text_in, text_known, export_wanted}
+use Rattle.cf_desired.specs.Seeing.{Seen, is_output_made, own_ids, first_sights, nested_sight, sights_after, outputs_inside, output_stop}
+use Rattle.cf_desired.specs.Seeing.{text_in, text_known, export_wanted}
 use Rattle.cf_desired.specs.Stack.{Stack, Verdicts, Sights, Scoping, scoping, flaw_at}
 use Rattle.cf_desired.specs.Work.{Member, Nesting, Work, Inside, Body, Shape, no_work, resource, nested, shut, barred, halted, opened}
 use Rattle.cf_desired.specs.Work as inside

@@ -1,4 +1,5 @@
--- A property as a name and its value, which is none while it is not known yet.
+-- A property as a name and its value, which is none while it is not known yet (template reference, Resources: Properties; that one
+-- may not be known yet is this project's own).
 use Rattle.std.specs.Prelude.{ℕ, List, Option, option_map}
 use Rattle.cf_tree.specs.Datum.{Data}
 use Rattle.cf_tree.specs.Value.{datum_of}

@@ -10,7 +10,9 @@ use Rattle.cf_tree.specs.declared.template.Template.{Template}
 use Rattle.cf_graph.specs.Mentions.{Mention, by_ref, by_attribute, mentions_of}
 use Rattle.cf_graph.specs.Needs.{holds_in}
 use Rattle.cf_desired.specs.Met.{output_at}
-use Rattle.cf_desired.specs.Stack.{Stack, Settings, Verdicts, Sights, resource_scope, scoping, value_in}
+use Rattle.cf_desired.specs.Stack.{Stack, Settings, Verdicts, Sights, scoping}
+use Rattle.cf_eval.specs.Scope.{resource_scope}
+use Rattle.cf_eval.specs.Value.{value_of}
 
 -- the same is seen of a mentioned name; a parameter hides resources from Ref
 abbrev pub SeesSame : Settings → Sights → Sights → Mention → Type 0
@@ -27,7 +29,8 @@ ValueRests =
     (t : Template) (bound : Settings) (conds : Verdicts) (pseudo : List (List ℕ × Data)) (imports : List (List ℕ × List ℕ)) (m n : Sights)
     (e : Form)
     → SeesAllSame bound m n (mentions_of (holds_in conds) e)
-    → value_in (resource_scope t bound conds pseudo n imports) e ≡ value_in (resource_scope t bound conds pseudo m imports) e
+    → value_of (resource_scope t.mappings bound conds pseudo n imports) e
+    ≡ value_of (resource_scope t.mappings bound conds pseudo m imports) e
 
 -- an output, its fault and the name of its export rest on what its two expressions mention
 abbrev pub maybe_mentions : Verdicts → Option Form → List Mention

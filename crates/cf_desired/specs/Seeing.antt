@@ -11,13 +11,14 @@ use Rattle.cf_eval.specs.declared.fault.EvalWhy.TheVariants.{UnknownName, WrongK
 use Rattle.cf_graph.specs.Needs.{is_false, is_made}
 use Rattle.cf_desired.specs.Names.{path_in, stack_id}
 use Rattle.cf_desired.specs.Given.{Given, given_in, settings_for}
-use Rattle.cf_eval.specs.Outcome.{Outcome, Stop, got, later, bad, fault, undecided, below}
+use Rattle.cf_eval.specs.Outcome.{Outcome, Stop, got, later, bad, fault, stopped_at}
 use Rattle.cf_eval.specs.declared.env.OutputSight.{OutputSight}
 use Rattle.cf_eval.specs.declared.env.OutputSight.TheVariants as output
 use Rattle.cf_eval.specs.Scope.{Scope}
 use Rattle.cf_eval.specs.declared.env.Sight.{Sight}
 use Rattle.cf_eval.specs.declared.env.Sight.TheVariants as sight
-use Rattle.cf_desired.specs.Stack.{Stack, Verdicts, Sights, Scoping, scoping, value_in, stop_in}
+use Rattle.cf_desired.specs.Stack.{Stack, Verdicts, Sights, Scoping, scoping, stop_in}
+use Rattle.cf_eval.specs.Value.{value_of}
 use Rattle.cf_eval.specs.Texts.{as_text}
 use Rattle.cf_desired.specs.Work.{Member, Nesting, Work, Inside, Body, no_work, resource, nested, shut, barred, halted, opened}
 use Rattle.cf_desired.specs.Work as inside
@@ -50,7 +51,7 @@ first_sights t conds seen ids = map (made_sight t seen) ids ++ unmade_sights t c
 
 -- an output's value and the name of its export are wanted as texts; an export's name may not be Later
 abbrev pub text_in : Scope → Form → Outcome (List ℕ)
-text_in s e = as_text (place_of e) (value_in s e)
+text_in s e = as_text (place_of e) (value_of s e)
 
 abbrev pub export_wanted : Form → Outcome (List ℕ) → Outcome (List ℕ)
 export_wanted f later = bad (fault WrongKind (place_of f))
@@ -82,9 +83,7 @@ text_known _ = None
 
 -- what is seen of an output of the stack at a path
 abbrev pub broken_at : List ℕ → Stop → OutputSight
-broken_at path (fault why at) = output.Broken why path at
-broken_at path (undecided name at) = output.Broken UnknownName path at
-broken_at path (below why stack at) = output.Broken why stack at
+broken_at path s = let w = stopped_at path s in output.Broken w.0 w.1.0 w.1.1
 
 abbrev pub sight_of_output : List ℕ → Verdicts → Scope → Out → OutputSight
 sight_of_output path conds s o =

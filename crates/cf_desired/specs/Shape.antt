@@ -1,6 +1,7 @@
 -- The shape of a source over what is seen before an operation: of what is seen it rests on nested templates' names and conditions
 -- alone (User Guide: working with nested stacks; the limits are this project's own).
-use Rattle.std.specs.Prelude.{ℕ, zero, suc, ◌+◌, Bool, true, false, ◌&&◌, not, List, [], ◌∷◌, ◌++◌, Option, Some, None, Result, Ok, Err, find, flat_map, fold, length, map, option_map, unwrap_or, is_some, nat_lt, codes, if◌then◌else◌}
+use Rattle.std.specs.Prelude.{ℕ, zero, suc, ◌+◌, Bool, true, false, ◌&&◌, not, List, [], ◌∷◌, ◌++◌, Option, Some, None, Result, Ok, Err}
+use Rattle.std.specs.Prelude.{find, flat_map, fold, length, map, option_map, unwrap_or, is_some, nat_lt, codes, if◌then◌else◌}
 use Rattle.std.specs.List.{list_all}
 use Rattle.std.specs.Option.{option_or, option_map_or}
 use Rattle.cf_tree.specs.Datum.{Data}
@@ -23,13 +24,14 @@ use Rattle.cf_desired.specs.Flaw.{graph_fault_as}
 use Rattle.cf_desired.specs.Names.{path_in, name_in, pseudo_of}
 use Rattle.cf_desired.specs.declared.flaw.Flaw.{Flaw}
 use Rattle.cf_desired.specs.declared.flaw.Flaw.TheVariants as flaw
-use Rattle.cf_eval.specs.Env.{conditions_of}
+use Rattle.cf_eval.specs.Conditions.{conditions_of}
 use Rattle.cf_desired.specs.Templates.{is_stack, template_named}
 use Rattle.cf_desired.specs.Given.{Given, pieces, given_in, settings_for}
 use Rattle.cf_eval.specs.Outcome.{Outcome, got, later, bad, fault, on_got}
 use Rattle.cf_eval.specs.Scope.{Scope}
 use Rattle.cf_desired.specs.Seeing.{Seen, own_ids, first_sights, nested_sight, outputs_inside}
-use Rattle.cf_desired.specs.Stack.{Stack, Verdicts, Settings, Sights, Scoping, scoping, value_in, flaw_at}
+use Rattle.cf_desired.specs.Stack.{Stack, Verdicts, Settings, Sights, Scoping, scoping, flaw_at}
+use Rattle.cf_eval.specs.Value.{value_of}
 use Rattle.cf_eval.specs.Texts.{text_of}
 use Rattle.cf_desired.specs.Work.{Member, Nesting, Work, Inside, Body, Shape, no_work, resource, nested, shut, barred, halted, opened}
 use Rattle.cf_desired.specs.Work as inside
@@ -51,11 +53,8 @@ first_stand t id = (id, path_in t.path id ∷ [])
 abbrev pub first_stands : Stack → List (List ℕ) → StandsFor
 first_stands t ids = map (first_stand t) ids
 
-abbrev pub those : Option (List (List ℕ)) → List (List ℕ)
-those o = option_map_or (λ ps. ps) o []
-
 abbrev pub stood_for : StandsFor → List (List ℕ) → List (List ℕ)
-stood_for stands ids = flat_map (λ id. those (value_at id stands)) ids
+stood_for stands ids = flat_map (λ id. unwrap_or (value_at id stands) []) ids
 
 -- each once, in byte order
 abbrev pub put_name : List (List ℕ × Bool) → List ℕ → List (List ℕ × Bool)
@@ -153,25 +152,22 @@ is_stack_property name =
 abbrev pub has_stack_shape : Res → Bool
 has_stack_shape r = list_all (λ p. is_stack_property p.0) r.props && is_some (value_at (codes "TemplateURL") r.props)
 
--- a nested template's name is a text; where it is NoValue the shape is wrong, where it is Later it can't be told
-pub data Url : Type 0 where
-  url : List ℕ → Url
-  no_url : Flaw → Url
-
+-- A nested template's name is a text, or it has a flaw: where it is NoValue the shape is wrong, where it is Later the template can't be
+-- known.
 abbrev pub maybe_text : List ℕ → Option Data → Outcome (Option (List ℕ))
 maybe_text at None = got None
 maybe_text at (Some d) = option_map_or (λ t. got (Some t)) (text_of d) (bad (fault WrongKind at))
 
-abbrev pub url_from : List ℕ → List ℕ → Outcome (Option (List ℕ)) → Url
-url_from stack path (got (Some name)) = url name
-url_from stack path (got None) = no_url (flaw.Shape path)
-url_from stack path later = no_url (flaw.DynamicTemplate path)
-url_from stack path (bad s) = no_url (flaw_at stack s)
+abbrev pub template_name_from : List ℕ → List ℕ → Outcome (Option (List ℕ)) → Result (List ℕ) Flaw
+template_name_from stack path (got (Some name)) = Ok name
+template_name_from stack path (got None) = Err (flaw.Shape path)
+template_name_from stack path later = Err (flaw.DynamicTemplate path)
+template_name_from stack path (bad s) = Err (flaw_at stack s)
 
-abbrev pub url_of : List ℕ → List ℕ → Scope → Res → Url
-url_of stack path s r =
-    url_from stack path (option_map_or (λ f. on_got (value_in s f) (maybe_text (place_of f))) (value_at (codes "TemplateURL") r.props)
-    (got None))
+abbrev pub template_name_of : List ℕ → List ℕ → Scope → Res → Result (List ℕ) Flaw
+template_name_of stack path s r =
+    template_name_from stack path
+    (option_map_or (λ f. on_got (value_of s f) (maybe_text (place_of f))) (value_at (codes "TemplateURL") r.props) (got None))
 
 -- a template that is entered with what it is given, where so many templates and members were entered before
 abbrev pub Laying : Type 0
@@ -195,9 +191,9 @@ entering_below e n r t = record {
   needs = n.needs;
 }
 
-abbrev pub body_at : Option Laying → Source → Entering → Nesting → Res → ℕ → ℕ → Given → Url → Body
-body_at lay source e n r templates members g (no_url f) = barred f
-body_at lay source e n r templates members g (url name) =
+abbrev pub body_at : Option Laying → Source → Entering → Nesting → Res → ℕ → ℕ → Given → Result (List ℕ) Flaw → Body
+body_at lay source e n r templates members g (Err f) = barred f
+body_at lay source e n r templates members g (Ok name) =
     laid_within lay n.path name templates members (template_named name source) (entering_below e n r) g
 
 -- what is known along the order of work: what is seen, what ids stand for, how many templates and members were entered
@@ -212,7 +208,8 @@ abbrev pub inside_of : Option Laying → Source → Entering → Scope → PlanI
 inside_of lay source e s c n r (Some f) = shut f
 inside_of lay source e s c n r None =
     if has_stack_shape r then inside.given_by (value_at (codes "Parameters") r.props)
-    (body_at lay source e n r c.templates c.members (given_in s (value_at (codes "Parameters") r.props)) (url_of e.stack.path n.path s r))
+    (body_at lay source e n r c.templates c.members (given_in s (value_at (codes "Parameters") r.props))
+    (template_name_of e.stack.path n.path s r))
     else shut (flaw.Shape n.path)
 
 abbrev pub progress_after : Source → Seen → Scope → PlanInProgress → Nesting → Inside → PlanInProgress

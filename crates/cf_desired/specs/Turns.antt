@@ -7,7 +7,7 @@ use Rattle.cf_tree.specs.Datum.{Data}
 use Rattle.cf_tree.specs.Forms.{Form}
 use Rattle.cf_tree.specs.declared.source.Source.{Source}
 use Rattle.cf_eval.specs.declared.env.OutputSight.{OutputSight}
-use Rattle.cf_eval.specs.Scope.{Scope}
+use Rattle.cf_eval.specs.Scope.{Scope, resource_scope}
 use Rattle.cf_desired.specs.declared.flaw.Flaw.{Flaw}
 use Rattle.cf_desired.specs.declared.shape.Terms.{Terms}
 use Rattle.cf_desired.specs.declared.wanted.Evaluated.{Evaluated}
@@ -22,7 +22,7 @@ use Rattle.cf_desired.specs.Names.{pseudo_of}
 use Rattle.cf_desired.specs.Plan.{exported, output_flaws, wanted_of}
 use Rattle.cf_desired.specs.Seeing.{Seen, by_names, is_output_made, output_sights, own_ids, seen_nested}
 use Rattle.cf_desired.specs.Shape.{given_root}
-use Rattle.cf_desired.specs.Stack.{Stack, Verdicts, Settings, Sights, resource_scope}
+use Rattle.cf_desired.specs.Stack.{Stack, Verdicts, Settings, Sights}
 use Rattle.cf_desired.specs.Valued.{member_props}
 use Rattle.cf_desired.specs.Work.{Member, Nesting, Work, Inside, Body, no_work, resource, nested, shut, barred, halted, opened}
 use Rattle.cf_desired.specs.Work as inside
@@ -97,7 +97,7 @@ pub record Frame : Type 0 where
   pub sights : Sights
 
 abbrev pub scope_on : Source → Frame → Scope
-scope_on source f = resource_scope f.stack.template f.bound f.conds f.pseudo f.sights source.imports
+scope_on source f = resource_scope f.stack.template.mappings f.bound f.conds f.pseudo f.sights source.imports
 
 abbrev pub frame_of : Source → Seen → Given → Entry → Stack → Verdicts → Made → Frame
 frame_of source seen g e t conds made = record {

@@ -7,7 +7,8 @@ use Rattle.cf_desired.specs.declared.wanted.Evaluated.TheVariants.{Flawed as fla
 use Rattle.cf_desired.specs.Given.{Given, given_in, settings_for}
 use Rattle.cf_eval.specs.Scope.{Scope}
 use Rattle.cf_desired.specs.Seeing.{Seen, own_ids, first_sights, nested_sight, outputs_inside}
-use Rattle.cf_desired.specs.Stack.{Sights, Scoping, scoping, props_in}
+use Rattle.cf_desired.specs.Stack.{Sights, Scoping, scoping, evaluated_in}
+use Rattle.cf_eval.specs.Value.{props_of}
 use Rattle.cf_desired.specs.Work.{Member, Nesting, Work, Inside, Body, no_work, resource, nested, shut, barred, halted, opened}
 use Rattle.cf_desired.specs.Work as inside
 
@@ -49,7 +50,7 @@ unless_flaw None v = v
 unless_flaw (Some f) v = flawed f
 
 abbrev pub member_props : List ℕ → Scope → Member → Evaluated
-member_props path s m = unless_flaw m.unnamed (props_in path s m.props)
+member_props path s m = unless_flaw m.unnamed (evaluated_in path (props_of s m.props))
 
 -- each with its properties
 abbrev mutual

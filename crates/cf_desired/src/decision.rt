@@ -1,15 +1,16 @@
 //! What the conditions of a template come to, and the order of work in it.
 ghost use Rattle.std.specs.Prelude.{◌≡◌, ◌∷◌, IfOk, map};
-ghost use Rattle.cf_eval.specs.Env.{Decides, conditions_of};
+ghost use Rattle.cf_eval.specs.Env.{Decides};
+ghost use Rattle.cf_eval.specs.Conditions.{conditions_of};
 ghost use Rattle.cf_eval.specs.Outcome.{got};
-ghost use Rattle.cf_eval.specs.ScopeOf.{verdict_of};
+ghost use Rattle.cf_eval.specs.Scope.{verdict_of};
 ghost use Rattle.cf_desired.specs.Kept.{decision_in, kept_stack_in};
 ghost use Rattle.cf_desired.specs.Laying.{decision_of, order_found};
 ghost use Rattle.cf_desired.specs.Shape.{first_later};
 
+use crate::evaluations::{blame_of, flaw_by};
 use crate::flaw::Flaw;
 use crate::shape::Stack;
-use crate::told::{blame_of, flaw_by};
 use cf_eval::{EvalFault, conditions};
 use cf_graph::{GraphFault, Needs, order};
 use cf_tree::{Bound, CondMap, Dict, Txt, Verdict};

@@ -12,7 +12,7 @@ use crate::pseudo::pseudo_of;
 use crate::seen::Seen;
 use crate::shape::{Entry, Nesting, Stack, Turn};
 use crate::sights::add_nested;
-use crate::urls::offered_to;
+use crate::template_name::offered_to;
 use cf_eval::{Env, OutputSight, Sights};
 use cf_tree::{Bound, ByName, CondMap, Dict, Source};
 use std::alloc::{AllocError, Global};

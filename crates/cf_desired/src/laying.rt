@@ -2,8 +2,8 @@
 ghost use Rattle.std.specs.Prelude.{◌≡◌, ◌+◌, [], ◌∷◌, ◌++◌, IfOk, codes, fold, length, map};
 ghost use Rattle.cf_eval.specs.Env.{scope_in};
 ghost use Rattle.cf_template.proofs.Ordered.{AreOrdered};
-ghost use Rattle.cf_desired.specs.Kept.{IsContents, IsJoined, IsLaid, IsLaidAlong, IsShape, IsShapeFrom, IsWithin, WayLaid, course_in, entering_in, kept_entry_in, nesting_in, offer_in, scope_by, kept_stack_in, way_in};
-ghost use Rattle.cf_desired.specs.Laying.{IsWay, path_begun, enterable_below, entered_by, entered_way, few, step_by, way_by, with_member, with_nested};
+ghost use Rattle.cf_desired.specs.Kept.{IsContents, IsJoined, IsLaid, IsLaidAlong, IsShape, IsShapeFrom, IsWithin, WayLaid, so_far_in, entering_in, kept_entry_in, nesting_in, offer_in, scope_by, kept_stack_in, way_in};
+ghost use Rattle.cf_desired.specs.Laying.{IsWay, none_laid, enterable_below, entered_by, entered_way, few, step_by, way_by, with_member, with_nested};
 ghost use Rattle.cf_desired.specs.Listed.{made_by, settings_by, stands_by};
 ghost use Rattle.cf_desired.specs.Given.{Given, given_in};
 ghost use Rattle.cf_desired.specs.Seeing.{Seen, by_names, output_sights};
@@ -20,9 +20,9 @@ ghost use Rattle.cf_desired.specs.Work.{barred, halted, shut};
 ghost use Rattle.cf_desired.specs.declared.flaw.Flaw.TheVariants as flaw;
 
 use crate::binding::{pieces_of, settings};
+use crate::context::{PlanContext, env_over};
 use crate::decision::{Decision, decide};
 use crate::flaw::Flaw;
-use crate::ground::{Ground, env_over};
 use crate::members::{member_by, nesting_by, unnamed};
 use crate::offers::Offer;
 use crate::outputs::output_sights;
@@ -31,9 +31,9 @@ use crate::seen::Seen;
 use crate::shape::{Entry, Nesting, Shape, Stack, Turn};
 use crate::shared::{Shared, SharedRes, resource_named, shared_res};
 use crate::sights::{add_nested, made_by};
+use crate::template_name::{TemplateName, has_shape, offered_to, template_name_wanted};
 use crate::templates::{Templates, is_stack, template_named};
 use crate::turns::Turns;
-use crate::urls::{Url, has_shape, offered_to, url_wanted};
 use cf_eval::{Env, OutputSight, Sights, path_in};
 use cf_graph::Needs;
 use cf_tree::{
@@ -86,7 +86,7 @@ pub(crate) struct Laid {
 /// What is known along the order of work in a template: what is seen of its resources, the paths that logical ids stand for, and
 /// those of its nested stacks.
 #[derive(Drop)]
-pub(crate) struct Course<'a> {
+pub(crate) struct LaidSoFar<'a> {
     pub turns: Listing<Turn>,
     pub sights: Sights<'a>,
     pub stands: ByName<Names>,
@@ -224,14 +224,14 @@ fn lay(
     match decide(alloc, &entering.stack, &bound, &pseudo)? {
         Decision::Halted { flaw } => halted(alloc, entry, entering.stack, flaw, count),
         Decision::Opened { conds, order } => {
-            let ground = Ground {
+            let context = PlanContext {
                 source,
                 stack: &entering.stack,
                 bound: &bound,
                 conds: &conds,
                 pseudo: &pseudo,
             };
-            let contents = contents_of(alloc, laying, &entering, &ground, &order, left, count)?;
+            let contents = contents_of(alloc, laying, &entering, &context, &order, left, count)?;
             let turn = Turn::Opened {
                 entry,
                 stack: entering.stack,
@@ -250,41 +250,46 @@ fn contents_of(
     alloc: Global,
     laying: &Laying,
     entering: &Entering,
-    ground: &Ground,
+    context: &PlanContext,
     order: &Needs,
     left: usize,
     count: Count,
 ) -> Result<Contents, AllocError>
     requires templates { laying.now.templates.now ≡ templates_of laying.now.source.now }
-    requires ordered { AreOrdered ground.now.stack.now.template.resources }
-    requires stack { kept_stack_in ground.now.stack.now ≡ kept_stack_in entering.now.stack }
-    requires source { ground.now.source.now ≡ laying.now.source.now }
-    requires few { few (count.templates + 1) (count.members + length ground.now.stack.now.template.resources) }
-    ensures contents { IfOk result (IsContents (kept_stack_in ground.now.stack.now) ground.now.conds.now (scope_by ground.now) (own_in ground.now.stack.now.template order.now.entries)
-        (fold (step_by (enterable_below left laying.now.source.now laying.now.seen.now) laying.now.source.now laying.now.seen.now (entering_in entering.now) ground.now.conds.now (scope_by ground.now))
-        (path_begun laying.now.seen.now (kept_stack_in ground.now.stack.now) ground.now.conds.now (own_in ground.now.stack.now.template order.now.entries) count.templates count.members) order.now.entries)) }
+    requires ordered { AreOrdered context.now.stack.now.template.resources }
+    requires stack { kept_stack_in context.now.stack.now ≡ kept_stack_in entering.now.stack }
+    requires source { context.now.source.now ≡ laying.now.source.now }
+    requires few { few (count.templates + 1) (count.members + length context.now.stack.now.template.resources) }
+    ensures contents { IfOk result (IsContents (kept_stack_in context.now.stack.now) context.now.conds.now (scope_by context.now) (own_in context.now.stack.now.template order.now.entries)
+        (fold (step_by (enterable_below left laying.now.source.now laying.now.seen.now) laying.now.source.now laying.now.seen.now (entering_in entering.now) context.now.conds.now (scope_by context.now))
+        (none_laid laying.now.seen.now (kept_stack_in context.now.stack.now) context.now.conds.now (own_in context.now.stack.now.template order.now.entries) count.templates count.members) order.now.entries)) }
     ensures few { IfOk result (λ k. few k.laid.count.templates k.laid.count.members) }
 {
-    let own = own_on(alloc, ground.stack, order)?;
-    let made = made_on(alloc, ground, &own)?;
-    let mut course = begun(alloc, laying.seen, ground.stack, &own, &made, count)?;
-    work(alloc, laying, entering, ground, order, left, &mut course)?;
-    let laid = gathered(alloc, ground, &own, course)?;
+    let own = own_on(alloc, context.stack, order)?;
+    let made = made_on(alloc, context, &own)?;
+    let mut so_far = begun(alloc, laying.seen, context.stack, &own, &made, count)?;
+    work(alloc, laying, entering, context, order, left, &mut so_far)?;
+    let laid = gathered(alloc, context, &own, so_far)?;
     Ok(Contents { made, laid })
 }
 
-/// What a course came to, with what is seen of the outputs behind it and with the paths of the template's own resources.
-fn gathered(alloc: Global, ground: &Ground, own: &Names, course: Course) -> Result<Laid, AllocError>
-    ensures laid { IfOk result (IsLaidAlong (kept_stack_in ground.now.stack.now) ground.now.conds.now (scope_by ground.now) own.now (course_in course.entry)) }
-    ensures count { IfOk result (λ l. l.count ≡ course.entry.count) }
+/// What was laid out along the work of a template, with what is seen of the outputs behind it and with the paths of the template's own resources.
+fn gathered(
+    alloc: Global,
+    context: &PlanContext,
+    own: &Names,
+    so_far: LaidSoFar,
+) -> Result<Laid, AllocError>
+    ensures laid { IfOk result (IsLaidAlong (kept_stack_in context.now.stack.now) context.now.conds.now (scope_by context.now) own.now (so_far_in so_far.entry)) }
+    ensures count { IfOk result (λ l. l.count ≡ so_far.entry.count) }
 {
-    let outputs = outputs_behind(alloc, ground, &course.sights)?;
-    let paths = all_paths(alloc, ground.stack, own, &course.paths)?;
+    let outputs = outputs_behind(alloc, context, &so_far.sights)?;
+    let paths = all_paths(alloc, context.stack, own, &so_far.paths)?;
     Ok(Laid {
-        turns: course.turns,
+        turns: so_far.turns,
         outputs,
         paths,
-        count: course.count,
+        count: so_far.count,
     })
 }
 
@@ -317,12 +322,17 @@ fn halted(
 /// What is seen of a template's outputs, where this is seen of its resources.
 fn outputs_behind(
     alloc: Global,
-    ground: &Ground,
+    context: &PlanContext,
     sights: &Sights,
 ) -> Result<ByName<OutputSight>, AllocError>
-    ensures { IfOk result (λ os. os ≡ by_names (output_sights (kept_stack_in ground.now.stack.now) ground.now.conds.now (scope_by ground.now sights.now))) }
+    ensures { IfOk result (λ os. os ≡ by_names (output_sights (kept_stack_in context.now.stack.now) context.now.conds.now (scope_by context.now sights.now))) }
 {
-    output_sights(alloc, ground.stack, ground.conds, &env_over(ground, sights))
+    output_sights(
+        alloc,
+        context.stack,
+        context.conds,
+        &env_over(context, sights),
+    )
 }
 
 /// A template of which all has come.
@@ -376,10 +386,10 @@ fn own_on(alloc: Global, stack: &Stack, order: &Needs) -> Result<Names, AllocErr
 }
 
 /// Whether each resource of a stack's template is made, where these are the logical ids of its own that are.
-fn made_on(alloc: Global, ground: &Ground, own: &Names) -> Result<ByName<bool>, AllocError>
-    ensures { IfOk result (λ made. made ≡ made_by ground.now.conds.now ground.now.stack.now.template own.now) }
+fn made_on(alloc: Global, context: &PlanContext, own: &Names) -> Result<ByName<bool>, AllocError>
+    ensures { IfOk result (λ made. made ≡ made_by context.now.conds.now context.now.stack.now.template own.now) }
 {
-    made_by(alloc, &ground.stack.template, ground.conds, own)
+    made_by(alloc, &context.stack.template, context.conds, own)
 }
 
 /// What the parameters of a stack's template are bound to.
@@ -397,11 +407,11 @@ fn begun<'a>(
     own: &Names,
     made: &'a ByName<bool>,
     count: Count,
-) -> Result<Course<'a>, AllocError>
+) -> Result<LaidSoFar<'a>, AllocError>
     requires few { few (count.templates + 1) (count.members + length stack.now.template.resources) }
-    ensures { IfOk result (λ c. (conds : Verdicts) → made.now ≡ made_by conds stack.now.template own.now → course_in c ≡ path_begun seen.now (kept_stack_in stack.now) conds own.now count.templates count.members) }
+    ensures { IfOk result (λ c. (conds : Verdicts) → made.now ≡ made_by conds stack.now.template own.now → so_far_in c ≡ none_laid seen.now (kept_stack_in stack.now) conds own.now count.templates count.members) }
 {
-    Ok(Course {
+    Ok(LaidSoFar {
         turns: Listing::new(alloc),
         sights: Sights::new(alloc, made, &stack.path, seen),
         stands: first_stands(alloc, stack, own)?,
@@ -454,21 +464,21 @@ fn work(
     alloc: Global,
     laying: &Laying,
     entering: &Entering,
-    ground: &Ground,
+    context: &PlanContext,
     order: &Needs,
     left: usize,
-    course: &mut Course,
+    so_far: &mut LaidSoFar,
 ) -> Result<(), AllocError>
     requires templates { laying.now.templates.now ≡ templates_of laying.now.source.now }
     requires ordered { AreOrdered entering.now.stack.template.resources }
-    requires stack { kept_stack_in ground.now.stack.now ≡ kept_stack_in entering.now.stack }
-    requires source { ground.now.source.now ≡ laying.now.source.now }
-    requires few { few course.old.count.templates course.old.count.members }
-    ensures course { IfOk result (λ _. course_in course.new ≡ fold (step_by (enterable_below left laying.now.source.now laying.now.seen.now) laying.now.source.now laying.now.seen.now (entering_in entering.now) ground.now.conds.now (scope_by ground.now)) (course_in course.old) order.now.entries) }
-    ensures few { IfOk result (λ _. few course.new.count.templates course.new.count.members) }
+    requires stack { kept_stack_in context.now.stack.now ≡ kept_stack_in entering.now.stack }
+    requires source { context.now.source.now ≡ laying.now.source.now }
+    requires few { few so_far.old.count.templates so_far.old.count.members }
+    ensures so_far { IfOk result (λ _. so_far_in so_far.new ≡ fold (step_by (enterable_below left laying.now.source.now laying.now.seen.now) laying.now.source.now laying.now.seen.now (entering_in entering.now) context.now.conds.now (scope_by context.now)) (so_far_in so_far.old) order.now.entries) }
+    ensures few { IfOk result (λ _. few so_far.new.count.templates so_far.new.count.members) }
 {
     for (id, ids) in order.iter() {
-        step(alloc, laying, entering, ground, (id, ids), left, course)?;
+        step(alloc, laying, entering, context, (id, ids), left, so_far)?;
     }
     Ok(())
 }
@@ -479,26 +489,28 @@ fn step(
     alloc: Global,
     laying: &Laying,
     entering: &Entering,
-    ground: &Ground,
+    context: &PlanContext,
     row: (&Txt, &Names),
     left: usize,
-    course: &mut Course,
+    so_far: &mut LaidSoFar,
 ) -> Result<(), AllocError>
     requires templates { laying.now.templates.now ≡ templates_of laying.now.source.now }
     requires ordered { AreOrdered entering.now.stack.template.resources }
-    requires stack { kept_stack_in ground.now.stack.now ≡ kept_stack_in entering.now.stack }
-    requires source { ground.now.source.now ≡ laying.now.source.now }
-    requires few { few course.old.count.templates course.old.count.members }
-    ensures course { IfOk result (λ _. course_in course.new ≡ step_by (enterable_below left laying.now.source.now laying.now.seen.now) laying.now.source.now laying.now.seen.now (entering_in entering.now) ground.now.conds.now (scope_by ground.now) (course_in course.old) (row.entry.0.now, row.entry.1.now)) }
-    ensures few { IfOk result (λ _. few course.new.count.templates course.new.count.members) }
+    requires stack { kept_stack_in context.now.stack.now ≡ kept_stack_in entering.now.stack }
+    requires source { context.now.source.now ≡ laying.now.source.now }
+    requires few { few so_far.old.count.templates so_far.old.count.members }
+    ensures so_far { IfOk result (λ _. so_far_in so_far.new ≡ step_by (enterable_below left laying.now.source.now laying.now.seen.now) laying.now.source.now laying.now.seen.now (entering_in entering.now) context.now.conds.now (scope_by context.now) (so_far_in so_far.old) (row.entry.0.now, row.entry.1.now)) }
+    ensures few { IfOk result (λ _. few so_far.new.count.templates so_far.new.count.members) }
 {
     let (id, ids) = row;
     match shared_res(alloc, &entering.stack.template, id.as_str())? {
         Some(resource) => {
             if is_stack(&resource) {
-                nest(alloc, laying, entering, ground, resource, ids, left, course)
+                nest(
+                    alloc, laying, entering, context, resource, ids, left, so_far,
+                )
             } else {
-                add_member(alloc, entering, ground.conds, resource, ids, course)
+                add_member(alloc, entering, context.conds, resource, ids, so_far)
             }
         }
         None => Ok(()),
@@ -512,13 +524,13 @@ fn add_member(
     conds: &CondMap,
     resource: SharedRes,
     ids: &Names,
-    course: &mut Course,
+    so_far: &mut LaidSoFar,
 ) -> Result<(), AllocError>
-    ensures course { IfOk result (λ _. course_in course.new ≡ with_member (entering_in entering.now) conds.now (course_in course.old) ids.now resource) }
-    ensures count { IfOk result (λ _. course.new.count ≡ course.old.count) }
+    ensures so_far { IfOk result (λ _. so_far_in so_far.new ≡ with_member (entering_in entering.now) conds.now (so_far_in so_far.old) ids.now resource) }
+    ensures count { IfOk result (λ _. so_far.new.count ≡ so_far.old.count) }
 {
-    let member = member_by(alloc, entering, conds, &course.stands, resource, ids)?;
-    course.turns.push(Turn::Resource { member })
+    let member = member_by(alloc, entering, conds, &so_far.stands, resource, ids)?;
+    so_far.turns.push(Turn::Resource { member })
 }
 
 /// Lays out a nested stack.
@@ -528,29 +540,29 @@ fn nest(
     alloc: Global,
     laying: &Laying,
     entering: &Entering,
-    ground: &Ground,
+    context: &PlanContext,
     resource: SharedRes,
     ids: &Names,
     left: usize,
-    course: &mut Course,
+    so_far: &mut LaidSoFar,
 ) -> Result<(), AllocError>
     requires templates { laying.now.templates.now ≡ templates_of laying.now.source.now }
-    requires stack { kept_stack_in ground.now.stack.now ≡ kept_stack_in entering.now.stack }
-    requires source { ground.now.source.now ≡ laying.now.source.now }
-    requires few { few course.old.count.templates course.old.count.members }
-    ensures course { IfOk result (λ _. course_in course.new ≡ with_nested (enterable_below left laying.now.source.now laying.now.seen.now) laying.now.source.now laying.now.seen.now (entering_in entering.now) ground.now.conds.now (scope_by ground.now) (course_in course.old) ids.now resource) }
-    ensures few { IfOk result (λ _. few course.new.count.templates course.new.count.members) }
+    requires stack { kept_stack_in context.now.stack.now ≡ kept_stack_in entering.now.stack }
+    requires source { context.now.source.now ≡ laying.now.source.now }
+    requires few { few so_far.old.count.templates so_far.old.count.members }
+    ensures so_far { IfOk result (λ _. so_far_in so_far.new ≡ with_nested (enterable_below left laying.now.source.now laying.now.seen.now) laying.now.source.now laying.now.seen.now (entering_in entering.now) context.now.conds.now (scope_by context.now) (so_far_in so_far.old) ids.now resource) }
+    ensures few { IfOk result (λ _. few so_far.new.count.templates so_far.new.count.members) }
 {
-    let nesting = nesting_by(alloc, entering, &course.stands, &resource, ids)?;
+    let nesting = nesting_by(alloc, entering, &so_far.stands, &resource, ids)?;
     let inner = Inner {
         nesting: nesting.try_clone(alloc)?,
         resource,
     };
-    let unnamed = unnamed(alloc, &entering.stack, ground.conds, &inner.resource)?;
-    let env = env_over(ground, &course.sights);
-    let way = way_into(alloc, laying, &env, &inner, unnamed, left, course.count)?;
-    let laid = within(alloc, laying, entering, inner, way, left, course.count)?;
-    join(alloc, laying.source, &nesting, laid, course)
+    let unnamed = unnamed(alloc, &entering.stack, context.conds, &inner.resource)?;
+    let env = env_over(context, &so_far.sights);
+    let way = way_into(alloc, laying, &env, &inner, unnamed, left, so_far.count)?;
+    let laid = within(alloc, laying, entering, inner, way, left, so_far.count)?;
+    join(alloc, laying.source, &nesting, laid, so_far)
 }
 
 /// Adds a nested stack that was laid out.
@@ -559,17 +571,17 @@ fn join(
     source: &Source,
     nesting: &Nesting,
     laid: Laid,
-    course: &mut Course,
+    so_far: &mut LaidSoFar,
 ) -> Result<(), AllocError>
-    ensures { IfOk result (λ _. IsJoined source.now (nesting_in nesting.now) laid course.old course.new) }
+    ensures { IfOk result (λ _. IsJoined source.now (nesting_in nesting.now) laid so_far.old so_far.new) }
 {
     let mut paths = laid.paths;
     add_all(alloc, &mut paths, &nesting.needs)?;
-    add_all(alloc, &mut course.paths, &paths)?;
-    course.turns.append(laid.turns)?;
-    add_nested(alloc, source, nesting, laid.outputs, &mut course.sights)?;
-    course.stands.insert(nesting.id.try_clone(alloc)?, paths)?;
-    course.count = laid.count;
+    add_all(alloc, &mut so_far.paths, &paths)?;
+    so_far.turns.append(laid.turns)?;
+    add_nested(alloc, source, nesting, laid.outputs, &mut so_far.sights)?;
+    so_far.stands.insert(nesting.id.try_clone(alloc)?, paths)?;
+    so_far.count = laid.count;
     Ok(())
 }
 
@@ -598,9 +610,9 @@ fn way_into(
             flaw: Flaw::Shape { path },
         });
     }
-    match url_wanted(alloc, &inner.resource, path, env)? {
-        Url::Named { name } => way_by_name(alloc, laying, env, inner, &name, left, count),
-        Url::Flawed { flaw } => Ok(Way::Barred { flaw }),
+    match template_name_wanted(alloc, &inner.resource, path, env)? {
+        TemplateName::Named { name } => way_by_name(alloc, laying, env, inner, &name, left, count),
+        TemplateName::Flawed { flaw } => Ok(Way::Barred { flaw }),
     }
 }
 

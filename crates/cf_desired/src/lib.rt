@@ -2,12 +2,13 @@
 #![tactic(auto)]
 
 mod binding;
+mod context;
 mod copies;
 mod decision;
+mod evaluations;
 mod exports;
 mod flaw;
 mod frames;
-mod ground;
 mod laws;
 mod laying;
 mod members;
@@ -21,11 +22,10 @@ mod seen;
 mod shape;
 mod shared;
 mod sights;
+mod template_name;
 mod templates;
 mod text;
-mod told;
 mod turns;
-mod urls;
 mod values;
 mod wanted;
 mod whole_plan;

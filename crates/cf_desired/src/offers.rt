@@ -6,18 +6,18 @@ ghost use Rattle.cf_tree.specs.Datum as datum;
 ghost use Rattle.cf_tree.specs.Forms.{expr, fields_of, place_of};
 ghost use Rattle.cf_tree.specs.Forms as node;
 ghost use Rattle.cf_tree.specs.Value.{datum_of};
-ghost use Rattle.cf_eval.specs.Env.{Evaluates, plain, scope_in};
+ghost use Rattle.cf_eval.specs.Env.{Evaluates, scope_in};
 ghost use Rattle.cf_eval.specs.Functions.{joined_by, led_by};
 ghost use Rattle.cf_eval.specs.Outcome.{got, undecided};
 ghost use Rattle.cf_eval.specs.Texts.{Found};
-ghost use Rattle.cf_eval.specs.Value.{form_found};
+ghost use Rattle.cf_eval.specs.Value.{value_within};
 ghost use Rattle.cf_desired.specs.Given.{given_in, map_wanted, offers_in, piece_text, pieces, item_texts, unknown, value_offers};
 ghost use Rattle.cf_desired.specs.Kept.{IsOffers, Takes, blame_at, flaw_of_blame, offer_in};
 ghost use Rattle.cf_desired.specs.Met.{offers_flaw};
 ghost use Rattle.cf_desired.specs.Stack.{stop_in};
 
+use crate::evaluations::{Blame, blame_of, some_flaw_by, text_of, wrong_kind};
 use crate::flaw::Flaw;
-use crate::told::{Blame, blame_of, some_flaw_by, text_of, wrong_kind};
 use cf_eval::{Env, EvalFault, EvalWhy, Got, blamed, eval_within};
 use cf_param::{Given, Piece};
 use cf_tree::{ByName, Dict, Expr, ExprDict, ExprNode, Names, Txt, Val, Vals, Verdict};
@@ -192,7 +192,7 @@ fn or_whole(
     form: &Expr,
     env: &Env,
 ) -> Result<Option<Blame>, AllocError>
-    ensures { IfOk result (λ b. b ≡ option_or found (option_map (blame_at env.now.stack.now) (stop_in (plain (form_found (scope_in env.now) (option_copied around.entry) form.now))))) }
+    ensures { IfOk result (λ b. b ≡ option_or found (option_map (blame_at env.now.stack.now) (stop_in (value_within (scope_in env.now) (option_copied around.entry) form.now)))) }
 {
     match found {
         Some(blame) => Ok(Some(blame)),
@@ -207,7 +207,7 @@ fn whole_blame(
     form: &Expr,
     env: &Env,
 ) -> Result<Option<Blame>, AllocError>
-    ensures { IfOk result (λ b. b ≡ option_map (blame_at env.now.stack.now) (stop_in (plain (form_found (scope_in env.now) (option_copied around.entry) form.now)))) }
+    ensures { IfOk result (λ b. b ≡ option_map (blame_at env.now.stack.now) (stop_in (value_within (scope_in env.now) (option_copied around.entry) form.now))) }
 {
     match eval_within(alloc, around, form, env) {
         Ok(_) => Ok(None),

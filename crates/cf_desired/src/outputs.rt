@@ -10,10 +10,10 @@ ghost use Rattle.cf_desired.specs.Seeing.{by_names, export_stop, is_output_made,
 ghost use Rattle.cf_desired.specs.Stack.{stop_in};
 ghost use Rattle.cf_desired.specs.Turns.{unmade_of};
 
+use crate::evaluations::{Blame, TextFound, some_flaw_by, text_wanted, wrong_kind};
 use crate::members::is_declared;
 use crate::names::{output_attribute, output_place};
 use crate::shape::Stack;
-use crate::told::{Blame, Told, some_flaw_by, text_told, wrong_kind};
 use crate::wanted::{Exporting, WantedOutput};
 use cf_eval::{Env, EvalWhy, OutputSight};
 use cf_tree::{ByName, CondMap, Listing, Names, Out, TryClone, Txt, Verdict};
@@ -96,7 +96,7 @@ fn output_sight(
     if !is_output_made(conds, output) {
         return Ok(OutputSight::NotMade);
     }
-    let OutputTold {
+    let OutputFound {
         value,
         export: _,
         blame,
@@ -122,7 +122,7 @@ fn output_over(
     ensures { IfOk result (λ o. o ≡ output_at env.now.stack.now conds.now (scope_in env.now) output.now) }
 {
     let name = output.name.try_clone(alloc)?;
-    let OutputTold {
+    let OutputFound {
         value,
         export,
         blame,
@@ -137,7 +137,7 @@ fn output_over(
 
 /// What an output comes to.
 #[derive(Drop)]
-struct OutputTold {
+struct OutputFound {
     value: Option<Txt>,
     export: Exporting,
     blame: Option<Blame>,
@@ -150,7 +150,7 @@ fn output_told(
     conds: &CondMap,
     env: &Env,
     output: &Out,
-) -> Result<OutputTold, AllocError>
+) -> Result<OutputFound, AllocError>
     ensures value { IfOk result (λ r. r.value ≡ text_known (text_in (scope_in env.now) output.now.value)) }
     ensures export { IfOk result (λ r. r.export ≡ exporting_in (scope_in env.now) output.now.export) }
     ensures blame { IfOk result (λ r. r.blame ≡ option_map (blame_at env.now.stack.now) (output_stop conds.now (scope_in env.now) output.now)) }
@@ -158,7 +158,7 @@ fn output_told(
     let undeclared = condition_blame(alloc, conds, env.stack, output)?;
     let exported = export_told(alloc, output, env)?;
     let known = value_told(alloc, output, env)?;
-    Ok(OutputTold {
+    Ok(OutputFound {
         value: known.value,
         export: exported.export,
         blame: undeclared.or(exported.blame.or(known.blame)),
@@ -186,32 +186,32 @@ fn condition_blame(
 
 /// The name that an output is exported by, and what is to blame where that is at fault.
 #[derive(Drop)]
-struct ExportTold {
+struct ExportFound {
     export: Exporting,
     blame: Option<Blame>,
 }
 
 /// The name that an output is exported by, which may not be Later.
-fn export_told(alloc: Global, output: &Out, env: &Env) -> Result<ExportTold, AllocError>
+fn export_told(alloc: Global, output: &Out, env: &Env) -> Result<ExportFound, AllocError>
     ensures export { IfOk result (λ r. r.export ≡ exporting_in (scope_in env.now) output.now.export) }
     ensures blame { IfOk result (λ r. r.blame ≡ option_map (blame_at env.now.stack.now) (export_stop (scope_in env.now) output.now.export)) }
 {
     let Some(expr) = &output.export else {
-        return Ok(ExportTold {
+        return Ok(ExportFound {
             export: Exporting::Nothing,
             blame: None,
         });
     };
-    match text_told(alloc, expr, env)? {
-        Told::Text { text } => Ok(ExportTold {
+    match text_wanted(alloc, expr, env)? {
+        TextFound::Text { text } => Ok(ExportFound {
             export: Exporting::Named { name: text },
             blame: None,
         }),
-        Told::Later => Ok(ExportTold {
+        TextFound::Later => Ok(ExportFound {
             export: Exporting::Fault,
             blame: Some(wrong_kind(alloc, env.stack, expr.at())?),
         }),
-        Told::Bad { blame } => Ok(ExportTold {
+        TextFound::Bad { blame } => Ok(ExportFound {
             export: Exporting::Fault,
             blame: Some(blame),
         }),
@@ -220,25 +220,25 @@ fn export_told(alloc: Global, output: &Out, env: &Env) -> Result<ExportTold, All
 
 /// The value of an output, where it is known, and what is to blame where it is at fault.
 #[derive(Drop)]
-struct ValueTold {
+struct ValueFound {
     value: Option<Txt>,
     blame: Option<Blame>,
 }
 
-fn value_told(alloc: Global, output: &Out, env: &Env) -> Result<ValueTold, AllocError>
+fn value_told(alloc: Global, output: &Out, env: &Env) -> Result<ValueFound, AllocError>
     ensures value { IfOk result (λ r. r.value ≡ text_known (text_in (scope_in env.now) output.now.value)) }
     ensures blame { IfOk result (λ r. r.blame ≡ option_map (blame_at env.now.stack.now) (stop_in (text_in (scope_in env.now) output.now.value))) }
 {
-    match text_told(alloc, &output.value, env)? {
-        Told::Text { text } => Ok(ValueTold {
+    match text_wanted(alloc, &output.value, env)? {
+        TextFound::Text { text } => Ok(ValueFound {
             value: Some(text),
             blame: None,
         }),
-        Told::Later => Ok(ValueTold {
+        TextFound::Later => Ok(ValueFound {
             value: None,
             blame: None,
         }),
-        Told::Bad { blame } => Ok(ValueTold {
+        TextFound::Bad { blame } => Ok(ValueFound {
             value: None,
             blame: Some(blame),
         }),

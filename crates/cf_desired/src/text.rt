@@ -1,7 +1,7 @@
 //! How a flaw of a template is told.
 ghost use Rattle.std.specs.Prelude.{◌≡◌, ◌++◌, [], ◌∷◌, IfOk, codes, flat_map, string_bytes};
 ghost use Rattle.json.specs.Print.{quoted};
-ghost use Rattle.cf_desired.specs.FlawText.{bind_text, flaw_text, tangle_text, names_text, words_text, why_name};
+ghost use Rattle.cf_desired.specs.FlawText.{bind_text, flaw_text, graph_fault_text, names_text, words_text, why_name};
 ghost use Rattle.cf_desired.specs.declared.flaw.Flaw.TheVariants as flaw;
 
 use crate::flaw::Flaw;
@@ -86,8 +86,8 @@ fn why_name(why: EvalWhy) -> &'static str
 }
 
 /// Why a template has no order of work.
-fn tangle_text(alloc: Global, fault: &GraphFault) -> Result<String, AllocError>
-    ensures { IfOk result (λ s. string_bytes s ≡ tangle_text fault.now) }
+fn graph_fault_text(alloc: Global, fault: &GraphFault) -> Result<String, AllocError>
+    ensures { IfOk result (λ s. string_bytes s ≡ graph_fault_text fault.now) }
 {
     match fault {
         GraphFault::Circular { cycle } => {
@@ -145,7 +145,7 @@ fn words_of(alloc: Global, flaw: &Flaw) -> Result<String, AllocError>
         Flaw::Eval { why, stack, at } => eval_text(alloc, *why, stack, at),
         Flaw::Graph { at, fault } => {
             let at = quoted(alloc, at)?;
-            let fault = tangle_text(alloc, fault)?;
+            let fault = graph_fault_text(alloc, fault)?;
             two(alloc, "Graph", at.as_str(), fault.as_str())
         }
         Flaw::Shape { path } => one(alloc, "Shape", path),

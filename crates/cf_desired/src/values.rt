@@ -12,6 +12,7 @@ ghost use Rattle.cf_desired.specs.Valued.{member_props};
 ghost use Rattle.cf_desired.specs.Work.{Body};
 
 use crate::binding::bind_fault_of;
+use crate::evaluations::properties;
 use crate::flaw::{Flaw, Flaws};
 use crate::frames::{Frame, env_on, offered_at, take_turn};
 use crate::laying::shape_of;
@@ -20,7 +21,6 @@ use crate::outputs::{exports, outputs_over, unmade};
 use crate::seen::Seen;
 use crate::shape::{Entry, Member, Nesting, Shape, Stack, Turn};
 use crate::templates::Templates;
-use crate::told::properties;
 use crate::turns::Turns;
 use crate::wanted::{Evaluated, Inner, Plan, Wanted, WantedOutput};
 use cf_eval::Env;

@@ -1,5 +1,5 @@
 -- Rows laid out one pass after another are those of a source's resources.
-use Rattle.std.proofs.Common.{◌≡◌, ℕ, zero, suc, ◌+◌, ◌<◌, ◌≤◌, ◌==◌, ◌&&◌, ◌||◌, Bool, true, false, List, [], ◌∷◌, ◌++◌, length, take, position, get_or, set, Option, Some, None, refl, ap, sym, ◌∙◌, subst, arith, cond, true≢false, inl, inr, ◌⊎◌}
+use Rattle.std.proofs.Common.{◌≡◌, ℕ, zero, suc, ◌+◌, ◌<◌, ◌≤◌, ◌==◌, ◌&&◌, ◌||◌, Bool, true, false, not, List, [], ◌∷◌, ◌++◌, length, take, position, get_or, set, Option, Some, None, refl, ap, sym, ◌∙◌, subst, arith, cond, true≢false, inl, inr, ◌⊎◌}
 use Rattle.std.specs.Prelude.{is_some}
 use Rattle.std.specs.List.{cons_option, filter_map}
 use Rattle.std.specs.Option.{option_or}
@@ -11,10 +11,14 @@ use Rattle.std.proofs.lemmas.Bool.{cases_eq, cases_lt, eq-eqb, ne_eqb}
 use Rattle.std.proofs.lemmas.Slice.Eq.{bytes_eq-Decides}
 use Rattle.cf_tree.specs.Keys.{put, value_at}
 use Rattle.cf_desired.specs.declared.shape.Terms.{Terms}
+use Rattle.cf_desired.specs.declared.whole_plan.Right.{Right}
 use Rattle.cf_desired.proofs.Puts.{value_put}
 use Rattle.cf_effect.specs.declared.layout.Placed.{Placed}
 use Rattle.cf_effect.specs.Layout.{is_place}
-use Rattle.cf_effect.specs.Laying.{AreUsers, HasPlaces, JoinsUsers, has_path, is_user, needs_in, put_place}
+use Rattle.cf_effect.specs.declared.held.Held.{Held}
+use Rattle.cf_effect.specs.End.{is_right_at}
+use Rattle.cf_effect.specs.Words.{is_current_at}
+use Rattle.cf_effect.specs.Laying.{ArePlacesOf, AreUsers, HasPlaces, JoinsUsers, has_path, is_user, needs_in, put_current, put_place}
 use Rattle.cf_effect.proofs.Places.{position_last}
 
 nothing : {A : Type 0} (o : Option A) → is_some o ≡ false → o ≡ None
@@ -30,44 +34,77 @@ or_something None p h = absurd (true≢false (sym h))
 or_something (Some a) p h = refl
 
 -- one place more
-module _ (all : List (List ℕ × Terms)) (i : ℕ) (x : List ℕ × Terms) (within : i < length all) (is : x ≡ get_or all i x) where
+module _ {A : Type 0} (test : List ℕ → A → Bool) (all : List A) (i : ℕ) (x : A) (within : i < length all) (is : x ≡ get_or all i x) where
   abbrev before : List ℕ → Option ℕ
-  before q = position (has_path q) (take i all)
+  before q = position (test q) (take i all)
 
   length_before : length (take i all) ≡ i
-  length_before = grind (arith, length-take {A = List ℕ × Terms})
+  length_before = grind (arith, length-take {A = A})
 
-  one_more : (q : List ℕ) → position (has_path q) (take (suc i) all) ≡ option_or (before q) (cond (bytes_eq q x.0) (Some i) None)
+  one_more : (q : List ℕ) → position (test q) (take (suc i) all) ≡ option_or (before q) (cond (test q x) (Some i) None)
   one_more q =
-      ap (position (has_path q)) (take-suc all i x within) ∙ position_last (has_path q) (take i all) (get_or all i x)
-      ∙ ap (λ (n : ℕ). option_or (before q) (cond (bytes_eq q (get_or all i x).0) (Some n) None)) length_before
-      ∙ ap (λ (y : List ℕ × Terms). option_or (before q) (cond (bytes_eq q y.0) (Some i) None)) (sym is)
+      ap (position (test q)) (take-suc all i x within) ∙ position_last (test q) (take i all) (get_or all i x)
+      ∙ ap (λ (n : ℕ). option_or (before q) (cond (test q (get_or all i x)) (Some n) None)) length_before
+      ∙ ap (λ (y : A). option_or (before q) (cond (test q y) (Some i) None)) (sym is)
 
-  module _ (old : List (List ℕ × ℕ)) (h : HasPlaces (take i all) old) where
-    kept : is_some (value_at x.0 old) ≡ true → (q : List ℕ) (c : Bool) → bytes_eq q x.0 ≡ c → value_at q old ≡ option_or (before q) (cond c (Some i) None)
+  -- one that no path passes
+  passed_over : (old : List (List ℕ × ℕ)) → ((q : List ℕ) → test q x ≡ false) → ArePlacesOf test (take i all) old → ArePlacesOf test (take (suc i) all) old
+  passed_over old e h q = h q ∙ sym (one_more q ∙ ap (λ b. option_or (before q) (cond b (Some i) None)) (e q) ∙ or_nothing (before q))
+
+  module _ (key : List ℕ) (same : (q : List ℕ) → test q x ≡ bytes_eq q key) (old : List (List ℕ × ℕ)) (h : ArePlacesOf test (take i all) old) where
+    kept : is_some (value_at key old) ≡ true → (q : List ℕ) (c : Bool) → bytes_eq q key ≡ c → value_at q old ≡ option_or (before q) (cond c (Some i) None)
     kept g q false e = h q ∙ sym (or_nothing (before q))
     kept g q true e =
-        let some : is_some (before q) ≡ true = ap is_some (sym (h q)) ∙ ap (λ n. is_some (value_at n old)) ((bytes_eq-Decides q x.0).0 e) ∙ g in
+        let some : is_some (before q) ≡ true = ap is_some (sym (h q)) ∙ ap (λ n. is_some (value_at n old)) ((bytes_eq-Decides q key).0 e) ∙ g in
         h q ∙ sym (or_something (before q) (Some i) some)
 
-    new_there : is_some (value_at x.0 old) ≡ false → (q : List ℕ) (c : Bool) → bytes_eq q x.0 ≡ c → cond c (Some i) (value_at q old) ≡ option_or (before q) (cond c (Some i) None)
+    new_there : is_some (value_at key old) ≡ false → (q : List ℕ) (c : Bool) → bytes_eq q key ≡ c → cond c (Some i) (value_at q old) ≡ option_or (before q) (cond c (Some i) None)
     new_there g q false e = h q ∙ sym (or_nothing (before q))
     new_there g q true e =
-        let none : before q ≡ None = nothing (before q) (ap is_some (sym (h q)) ∙ ap (λ n. is_some (value_at n old)) ((bytes_eq-Decides q x.0).0 e) ∙ g) in
+        let none : before q ≡ None = nothing (before q) (ap is_some (sym (h q)) ∙ ap (λ n. is_some (value_at n old)) ((bytes_eq-Decides q key).0 e) ∙ g) in
         sym (ap (λ o. option_or o (Some i)) none)
 
-    put_by : (b : Bool) → is_some (value_at x.0 old) ≡ b → (q : List ℕ) → value_at q (cond b old (put x.0 i old)) ≡ option_or (before q) (cond (bytes_eq q x.0) (Some i) None)
-    put_by true g q = kept g q (bytes_eq q x.0) refl
-    put_by false g q = value_put q x.0 i old ∙ new_there g q (bytes_eq q x.0) refl
+    put_by : (b : Bool) → is_some (value_at key old) ≡ b → (q : List ℕ) → value_at q (cond b old (put key i old)) ≡ option_or (before q) (cond (bytes_eq q key) (Some i) None)
+    put_by true g q = kept g q (bytes_eq q key) refl
+    put_by false g q = value_put q key i old ∙ new_there g q (bytes_eq q key) refl
 
-    placed_so : HasPlaces (take (suc i) all) (put_place old x.0 i)
-    placed_so q = put_by (is_some (value_at x.0 old)) refl q ∙ sym (one_more q)
+    placed_so : ArePlacesOf test (take (suc i) all) (put_place old key i)
+    placed_so q =
+        put_by (is_some (value_at key old)) refl q ∙ ap (λ b. option_or (before q) (cond b (Some i) None)) (sym (same q)) ∙ sym (one_more q)
+
+  -- the same of what a function of the code left
+  placed_next : (old new now : List (List ℕ × ℕ)) → ArePlacesOf test (take (suc i) all) now → new ≡ now → ArePlacesOf test (take (i + 1) all) new
+  placed_next old new now h put =
+      let next : suc i ≡ i + 1 = omega arith in
+      subst (λ k. ArePlacesOf test (take k all) new) next (subst (λ ps. ArePlacesOf test (take (suc i) all) ps) (sym put) h)
 
 pub placed_more : (all : List (List ℕ × Terms)) (i : ℕ) (x : List ℕ × Terms) (old new : List (List ℕ × ℕ)) → i < length all → x ≡ get_or all i x
     → HasPlaces (take i all) old → new ≡ put_place old x.0 i → HasPlaces (take (i + 1) all) new
 placed_more all i x old new within is h put =
-    let next : suc i ≡ i + 1 = omega arith in
-    subst (λ k. HasPlaces (take k all) new) next (subst (λ ps. HasPlaces (take (suc i) all) ps) (sym put) (placed_so all i x within is old h))
+    placed_next has_path all i x within is old new (put_place old x.0 i) (placed_so has_path all i x within is x.0 (λ q. refl) old h) put
+
+-- what is wanted at one path more
+pub right_more : (all : List Right) (i : ℕ) (x : Right) (old new : List (List ℕ × ℕ)) → i < length all → x ≡ get_or all i x
+    → ArePlacesOf is_right_at (take i all) old → new ≡ put_place old x.path i → ArePlacesOf is_right_at (take (i + 1) all) new
+right_more all i x old new within is h put =
+    placed_next is_right_at all i x within is old new (put_place old x.path i) (placed_so is_right_at all i x within is x.path (λ q. refl) old h) put
+
+-- a resource that is superseded is passed over
+pub current_more : (all : List Held) (i : ℕ) (x : Held) (old new : List (List ℕ × ℕ)) → i < length all → x ≡ get_or all i x
+    → ArePlacesOf is_current_at (take i all) old → new ≡ put_current old x i → ArePlacesOf is_current_at (take (i + 1) all) new
+current_more all i x old new within is h put =
+    placed_next is_current_at all i x within is old new (put_current old x i) (by x.superseded refl) put where
+      and_not : (a b : Bool) → b ≡ true → (a && not b) ≡ false
+      and_not true b e = ap not e
+      and_not false b e = refl
+
+      and_so : (a b : Bool) → b ≡ false → (a && not b) ≡ a
+      and_so true b e = ap not e
+      and_so false b e = refl
+
+      by : (b : Bool) → x.superseded ≡ b → ArePlacesOf is_current_at (take (suc i) all) (cond b old (put_place old x.path i))
+      by true e = passed_over is_current_at all i x within is old (λ q. and_not (bytes_eq q x.path) x.superseded e) h
+      by false e = placed_so is_current_at all i x within is x.path (λ q. and_so (bytes_eq q x.path) x.superseded e) old h
 
 -- users
 pub none_empty : (users : List (Vec ℕ)) (u : Vec ℕ) → u.items ≡ [] → ((at other : ℕ) → is_user other at users ≡ false)

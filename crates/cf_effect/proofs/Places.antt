@@ -1,9 +1,10 @@
 -- The place of the first of a list that passes a test.
-use Rattle.std.proofs.Common.{◌≡◌, ℕ, zero, suc, ◌+◌, ◌<◌, nat_lt, Bool, true, false, not, List, [], ◌∷◌, ◌++◌, length, map, take, find, position, Option, Some, None, option_map, refl, ap, sym, ◌∙◌, subst, arith, cond}
+use Rattle.std.proofs.Common.{◌≡◌, ℕ, zero, suc, ◌+◌, ◌<◌, nat_lt, Bool, true, false, not, List, [], ◌∷◌, ◌++◌, length, map, take, find, position, Option, Some, None, option_map, get_or, ◌≤◌, refl, ap, sym, ◌∙◌, subst, arith, cond}
 use Rattle.std.specs.Prelude.{is_some}
-use Rattle.std.specs.List.{position_or_len, slice_get}
-use Rattle.std.specs.Option.{option_and_then, option_or}
-use Rattle.std.proofs.lemmas.Option.{none-some, same_Some}
+use Rattle.std.specs.List.{HoldsAt, position_or_len, slice_get}
+use Rattle.std.specs.Option.{IfSome, MatchOption, option_and_then, option_copied, option_or}
+use Rattle.std.proofs.lemmas.Option.{none-some, same_Some, slice_get_past, slice_get_read}
+use denote.Ref.{Bor}
 use Rattle.cf_effect.specs.Words.{change_first}
 
 -- by recursion
@@ -52,6 +53,10 @@ module _ {A : Type 0} (p : A → Bool) where
 
   pub first_there : (xs : List A) → option_and_then (slice_get xs) (position p xs) ≡ find p xs
   first_there xs = flat (position p xs) xs ∙ ap (option_and_then (λ (q : Option A). q)) (stands_there xs) ∙ once (find p xs)
+
+  -- what stands at the place of the first that passes is that first
+  pub at_place : (xs : List A) (k : ℕ) → position p xs ≡ Some k → slice_get xs k ≡ find p xs
+  at_place xs k h = ap (option_and_then (slice_get xs)) (sym h) ∙ first_there xs
 
   is_mapped : {B C : Type 0} (f : B → C) (o : Option B) → is_some (option_map f o) ≡ is_some o
   is_mapped f None = refl
@@ -132,3 +137,9 @@ changed_place p q f same (x ∷ xs) = by (q x) (changed_place p q f same xs) whe
 
 pub position_changed : {A : Type 0} (p q : A → Bool) (f : A → A) → ((x : A) → p (f x) ≡ p x) → (xs : List A) → position p (change_first q f xs) ≡ position p xs
 position_changed p q f same xs = as_place p (change_first q f xs) ∙ changed_place p q f same xs ∙ sym (as_place p xs)
+
+-- what a lookup by a place finds
+pub looked_up : {A : Type 0} (xs : List A) (k : ℕ) (r : Option (Bor A)) → IfSome r (λ x. x.now ≡ get_or xs k x.now)
+    → MatchOption r (length xs ≤ k) (λ x. (k < length xs) × HoldsAt (λ y. x.now ≡ y) xs k) → option_copied r ≡ slice_get xs k
+looked_up xs k None h g = sym (slice_get_past xs k g)
+looked_up xs k (Some x) h g = sym (slice_get_read xs (length xs) k x.now refl g.0 h)

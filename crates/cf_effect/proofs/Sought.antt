@@ -235,6 +235,14 @@ found_more s f g at e a made held found is = record {
   by j m x h (inl both) = subst (λ y. IsFound s m.path y) (same_Some e x both.1) (is m (ap (λ k. slice_get (members_of s) k) (sym both.0) ∙ h))
   by j m x h (inr k) = a.found j m x h k
 
+pub kept_same : (s : StackState) (f g : Findings) → AreFindings s f → g.made ≡ f.made → g.held ≡ f.held → g.found ≡ f.found → AreFindings s g
+kept_same s f g a made held found = record {
+  made = ap (λ v. v.items) made ∙ a.made;
+  held = ap (λ v. v.items) held ∙ a.held;
+  count = ap (λ v. length v.items) found ∙ a.count;
+  found = λ at m e h k. a.found at m e h (ap (λ v. slice_get v.items at) (sym found) ∙ k);
+}
+
 -- findings of which nothing is worked out
 pub nothing_more : (xs : List (Option Found)) → IsNothing xs → IsNothing (xs ++ None ∷ [])
 nothing_more [] n zero e h = none-some e (same_Some None (Some e) h)

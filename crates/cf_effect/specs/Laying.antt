@@ -7,17 +7,26 @@ use Rattle.std.specs.Global.{Vec}
 use Rattle.cf_tree.specs.Keys.{put, value_at}
 use Rattle.cf_desired.specs.declared.shape.Terms.{Terms}
 use Rattle.cf_effect.specs.declared.layout.Placed.{Placed}
+use Rattle.cf_effect.specs.declared.held.Held.{Held}
 use Rattle.cf_effect.specs.Layout.{is_place}
+
+-- under each path is the place of the first of a list that the path passes
+abbrev pub ArePlacesOf : {A : Type 0} → (List ℕ → A → Bool) → List A → List (List ℕ × ℕ) → Type 0
+ArePlacesOf test all places = (path : List ℕ) → value_at path places ≡ position (test path) all
 
 -- under each path is its place; of two of one path the first counts
 abbrev pub has_path : List ℕ → List ℕ × Terms → Bool
 has_path path p = bytes_eq path p.0
 
 abbrev pub HasPlaces : List (List ℕ × Terms) → List (List ℕ × ℕ) → Type 0
-HasPlaces all places = (path : List ℕ) → value_at path places ≡ position (has_path path) all
+HasPlaces all places = ArePlacesOf has_path all places
 
 abbrev pub put_place : List (List ℕ × ℕ) → List ℕ → ℕ → List (List ℕ × ℕ)
 put_place places path at = if is_some (value_at path places) then places else put path at places
+
+-- none that is superseded counts
+abbrev pub put_current : List (List ℕ × ℕ) → Held → ℕ → List (List ℕ × ℕ)
+put_current places h at = if h.superseded then places else put_place places h.path at
 
 -- the row of a path, with the places of its needs that have one
 abbrev pub row_told : Placed → List ℕ × List ℕ × List ℕ

@@ -9,6 +9,7 @@ pub mod Effect
 pub mod Begin
 pub mod Reply
 pub mod End
+pub mod Settling
 pub mod Fold
 pub mod Heard
 pub mod Outset

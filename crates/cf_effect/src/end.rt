@@ -1,14 +1,16 @@
 //! What a later phase and the end of an operation leave.
-ghost use Rattle.std.specs.Prelude.{◌≡◌, ◌++◌, ◌&&◌, [], IfOk, find, map, not, option_copied};
+ghost use Rattle.std.specs.Prelude.{◌≡◌, ◌++◌, [], IfOk, map, option_copied};
+ghost use Rattle.std.specs.Option.{option_or};
 ghost use Rattle.cf_entry.specs.declared.status.Status.TheVariants as status;
-ghost use Rattle.cf_effect.specs.End.{as_wanted, completed, completing, ended_effect, ending, is_physical_of, is_right_at, settled_in, stopping, turned_effect, turning};
+ghost use Rattle.cf_effect.specs.End.{as_wanted, completed, completing, ended_effect, ending, settled_in, stopping, turned_effect, turning};
+ghost use Rattle.cf_effect.specs.Settling.{is_of_its_path, settled_by};
 ghost use Rattle.cf_effect.specs.State.{effect_from, lists_pinning, state_of};
-ghost use Rattle.cf_effect.specs.Words.{resource_at, resources_of};
+ghost use Rattle.cf_effect.specs.Words.{current_at, resources_of};
 
 use crate::copies::copy_into;
 use crate::held::{Held, Helds};
+use crate::index::{CurrentIndex, RightIndex};
 use crate::listed::{Listed, Lists, import_names};
-use crate::resources::current_at;
 use crate::state::State;
 use cf_desired::{Right, WholePlan};
 use cf_entry::{Phase, Status};
@@ -17,15 +19,12 @@ use cf_tree::{Listing, Names, Source, TryClone, Txt};
 use std::alloc::{AllocError, Global};
 use std::mem;
 
-/// What a template wants at a path.
-fn right_at<'a>(whole: &'a WholePlan, path: &Txt) -> Option<&'a Right>
-    ensures { option_copied result ≡ find (is_right_at path.now) whole.now.wanted }
-{
-    whole
-        .wanted
-        .as_slice()
-        .iter()
-        .find(|right| *path == right.path)
+/// The resources of a stack whose operation is completed, and what is wanted then.
+#[derive(Drop)]
+struct Settling<'a> {
+    made: CurrentIndex<'a>,
+    held: CurrentIndex<'a>,
+    wanted: RightIndex<'a>,
 }
 
 /// Gives a resource the policies and needs that are wanted at its path, and else supersedes it.
@@ -45,21 +44,54 @@ fn set_wanted(alloc: Global, held: &mut Held, right: Option<&Right>) -> Result<(
     Ok(())
 }
 
-/// A copy of a resource as the completed operation leaves it.
-fn settled(alloc: Global, stack: &State, whole: &WholePlan, held: &Held) -> Result<Held, AllocError>
-    ensures { IfOk result (λ h. h ≡ settled_in whole.now (state_of stack.now) held.now) }
-{
-    let mut settled = held.try_clone(alloc)?;
-    let right = if stack.is_of_its_path(held) {
-        right_at(whole, &held.path)
-    } else {
-        None
-    };
-    match set_wanted(alloc, &mut settled, right) {
-        Ok(()) => Ok(settled),
-        Err(failed) => {
-            drop(settled);
-            Err(failed)
+impl<'a> Settling<'a> {
+    /// The resources of a stack, to be settled by what is wanted.
+    fn of(alloc: Global, stack: &'a State, whole: &'a WholePlan) -> Result<Settling<'a>, AllocError>
+        ensures { IfOk result (λ s. settled_by s.wanted s.made s.held ≡ settled_in whole.now (state_of stack.now)) }
+    {
+        Ok(Settling {
+            made: CurrentIndex::new(alloc, stack.made.as_slice())?,
+            held: CurrentIndex::new(alloc, stack.held.as_slice())?,
+            wanted: RightIndex::new(alloc, whole.wanted.as_slice())?,
+        })
+    }
+
+    /// The resource of a path: the one that the operation made, or else the held one.
+    fn resource_at(&self, path: &Txt) -> Option<&'a Held>
+        ensures { option_copied result ≡ option_or (current_at path.now self.now.made) (current_at path.now self.now.held) }
+    {
+        match self.made.current_at(path) {
+            Some(made) => Some(made),
+            None => self.held.current_at(path),
+        }
+    }
+
+    /// Whether a resource is the one of its path.
+    fn is_of_its_path(&self, held: &Held) -> bool
+        ensures { result ≡ is_of_its_path self.now.made self.now.held held.now }
+    {
+        match self.resource_at(&held.path) {
+            Some(resource) => held.physical == resource.physical && !held.superseded,
+            None => false,
+        }
+    }
+
+    /// A copy of a resource as the completed operation leaves it.
+    fn settled(&self, alloc: Global, held: &Held) -> Result<Held, AllocError>
+        ensures { IfOk result (λ h. h ≡ settled_by self.now.wanted self.now.made self.now.held held.now) }
+    {
+        let mut settled = held.try_clone(alloc)?;
+        let right = if self.is_of_its_path(held) {
+            self.wanted.right_at(&held.path)
+        } else {
+            None
+        };
+        match set_wanted(alloc, &mut settled, right) {
+            Ok(()) => Ok(settled),
+            Err(failed) => {
+                drop(settled);
+                Err(failed)
+            }
         }
     }
 }
@@ -68,15 +100,14 @@ fn settled(alloc: Global, stack: &State, whole: &WholePlan, held: &Held) -> Resu
 /// said of what they join.
 fn settle_each(
     alloc: Global,
-    stack: &State,
-    whole: &WholePlan,
+    settling: &Settling,
     helds: &[Held],
     all: &mut Helds,
 ) -> Result<(), AllocError>
-    ensures { IfOk result (λ _. all.new.items ≡ all.old.items ++ map (settled_in whole.now (state_of stack.now)) helds.now) }
+    ensures { IfOk result (λ _. all.new.items ≡ all.old.items ++ map (settled_by settling.now.wanted settling.now.made settling.now.held) helds.now) }
 {
     for held in helds {
-        all.push(settled(alloc, stack, whole, held)?)?;
+        all.push(settling.settled(alloc, held)?)?;
     }
     Ok(())
 }
@@ -92,8 +123,9 @@ fn settle_all(
     ensures { IfOk result (λ _. all.new.items
         ≡ all.old.items ++ map (settled_in whole.now (state_of stack.now)) (resources_of (state_of stack.now))) }
 {
-    settle_each(alloc, stack, whole, stack.held.as_slice(), all)?;
-    settle_each(alloc, stack, whole, stack.made.as_slice(), all)
+    let settling = Settling::of(alloc, stack, whole)?;
+    settle_each(alloc, &settling, stack.held.as_slice(), all)?;
+    settle_each(alloc, &settling, stack.made.as_slice(), all)
 }
 
 /// All resources of a stack as the completed operation leaves them.
@@ -106,28 +138,6 @@ fn settle(alloc: Global, stack: &State, whole: &WholePlan) -> Result<Helds, Allo
         Err(failed) => {
             drop(all);
             Err(failed)
-        }
-    }
-}
-
-impl State {
-    /// The resource of a path: the one that the operation made, or else the held one.
-    fn resource_at(&self, path: &Txt) -> Option<&Held>
-        ensures { option_copied result ≡ resource_at path.now (state_of self.now) }
-    {
-        match current_at(self.made.as_slice(), path) {
-            Some(made) => Some(made),
-            None => current_at(self.held.as_slice(), path),
-        }
-    }
-
-    /// Whether a resource is the one of its path.
-    fn is_of_its_path(&self, held: &Held) -> bool
-        ensures { result ≡ (is_physical_of held.now.physical (resource_at held.now.path (state_of self.now)) && not held.now.superseded) }
-    {
-        match self.resource_at(&held.path) {
-            Some(resource) => held.physical == resource.physical && !held.superseded,
-            None => false,
         }
     }
 }

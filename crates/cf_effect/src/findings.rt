@@ -10,6 +10,7 @@ ghost use Rattle.cf_effect.specs.Findings.{AreFindings, FindsAt, place_among};
 ghost use Rattle.cf_effect.specs.Following.{IsFoundBy, IsNothing, Notes, StandAt, kept_at, nowhere, resource_in, seen_of_places};
 ghost use Rattle.cf_effect.specs.Layout.{IsLayoutOf, members_of};
 ghost use Rattle.cf_effect.specs.State.{state_of};
+ghost use Rattle.cf_effect.specs.World.{StackState};
 
 use crate::following::put_place;
 use crate::held::Held;
@@ -28,6 +29,17 @@ pub struct Found {
     pub known: Option<Dict>,
 }
 
+/// Of which paths the properties may be still to be worked out, since all of them were looked at.
+#[derive(Drop)]
+pub enum Unlooked {
+    /// Of none.
+    Nothing,
+    /// Of those that need the path at this place.
+    UsersOf { at: usize },
+    /// Of any.
+    Anything,
+}
+
 /// What is kept of each path of the operation's source, by its place in the order of work.
 #[derive(Drop)]
 pub struct Findings {
@@ -37,6 +49,8 @@ pub struct Findings {
     pub held: Vec<Option<usize>>,
     /// What its properties come to, where that is worked out.
     pub found: Vec<Option<Found>>,
+    /// Of which paths that may be still to be worked out; no contract speaks of it.
+    pub unlooked: Unlooked,
 }
 
 /// The layout of the source of a stack's last create or update, where there was one.
@@ -149,7 +163,12 @@ pub fn findings_of(alloc: Global, state: &State) -> Result<Findings, AllocError>
     let made = places_in(alloc, state, state.made.as_slice())?;
     let held = places_in(alloc, state, state.held.as_slice())?;
     let found = nothing_found(alloc, made.len())?;
-    Ok(Findings { made, held, found })
+    Ok(Findings {
+        made,
+        held,
+        found,
+        unlooked: Unlooked::Anything,
+    })
 }
 
 /// The place that is kept of a path, where there is one.
@@ -338,18 +357,100 @@ fn find_one(
     Ok(())
 }
 
-/// Works out what the properties of each path come to all of whose needs are made or held, where that is not known yet. After
-/// an error some of it may be worked out.
-fn find_more(alloc: Global, state: &State, findings: &mut Findings) -> Result<(), AllocError>
+/// Works out what the properties at a place come to, where they are due.
+fn find_due(
+    alloc: Global,
+    state: &State,
+    rows: &[Placed],
+    findings: &mut Findings,
+    at: usize,
+) -> Result<(), AllocError>
+    requires { AreFindings (state_of state.now) findings.old }
+    ensures { AreFindings (state_of state.now) findings.new }
+{
+    if is_due(rows, findings, at) {
+        find_one(alloc, state, findings, at)
+    } else {
+        Ok(())
+    }
+}
+
+/// Works out what the properties of each path come to, where they are due. After an error some of it may be worked out.
+fn find_all(alloc: Global, state: &State, findings: &mut Findings) -> Result<(), AllocError>
     requires { AreFindings (state_of state.now) findings.old }
     ensures { AreFindings (state_of state.now) findings.new }
 {
     let rows = rows_of(state);
     for at in 0..rows.len() {
-        if is_due(rows, findings, at) {
-            find_one(alloc, state, findings, at)?;
-        }
+        find_due(alloc, state, rows, findings, at)?;
     }
+    Ok(())
+}
+
+/// Works out what the properties of the paths at some places come to, where they are due. After an error some of it may be
+/// worked out.
+fn find_each(
+    alloc: Global,
+    state: &State,
+    places: &[usize],
+    findings: &mut Findings,
+) -> Result<(), AllocError>
+    requires { AreFindings (state_of state.now) findings.old }
+    ensures { AreFindings (state_of state.now) findings.new }
+{
+    let rows = rows_of(state);
+    for at in places {
+        find_due(alloc, state, rows, findings, *at)?;
+    }
+    Ok(())
+}
+
+/// Works out what the properties of the paths that need the one at a place come to, where they are due. After an error some of it
+/// may be worked out.
+fn find_users(
+    alloc: Global,
+    state: &State,
+    at: usize,
+    findings: &mut Findings,
+) -> Result<(), AllocError>
+    requires { AreFindings (state_of state.now) findings.old }
+    ensures { AreFindings (state_of state.now) findings.new }
+{
+    match layout_of(state) {
+        Some(layout) => find_each(alloc, state, layout.users_at(at), findings),
+        None => Ok(()),
+    }
+}
+
+/// Nothing is to be looked at any more.
+#[tactic(auto, using(crate::proofs::Sought::kept_same))]
+fn set_looked(findings: &mut Findings)
+    ensures { (s : StackState) → AreFindings s findings.old → AreFindings s findings.new }
+{
+    findings.unlooked = Unlooked::Nothing;
+}
+
+/// Works out what the properties come to of the paths of which that may be to be done, where they are due. After an error some of
+/// it may be worked out.
+fn find_unlooked(alloc: Global, state: &State, findings: &mut Findings) -> Result<(), AllocError>
+    requires { AreFindings (state_of state.now) findings.old }
+    ensures { AreFindings (state_of state.now) findings.new }
+{
+    match findings.unlooked {
+        Unlooked::Nothing => Ok(()),
+        Unlooked::UsersOf { at } => find_users(alloc, state, at, findings),
+        Unlooked::Anything => find_all(alloc, state, findings),
+    }
+}
+
+/// Works out what the properties of each path come to all of whose needs are made or held, where that is not known yet: of those
+/// that may have become so since all was looked at. After an error some of it may be worked out.
+fn find_more(alloc: Global, state: &State, findings: &mut Findings) -> Result<(), AllocError>
+    requires { AreFindings (state_of state.now) findings.old }
+    ensures { AreFindings (state_of state.now) findings.new }
+{
+    find_unlooked(alloc, state, findings)?;
+    set_looked(findings);
     Ok(())
 }
 

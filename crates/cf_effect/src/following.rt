@@ -9,7 +9,7 @@ ghost use Rattle.cf_effect.specs.Reply.{answered, changing, making};
 ghost use Rattle.cf_effect.specs.State.{state_of};
 ghost use Rattle.cf_effect.specs.Words.{has_physical};
 
-use crate::findings::{Findings, Found, layout_of};
+use crate::findings::{Findings, Found, Unlooked, layout_of};
 use crate::held::{Held, Pending};
 use crate::resources::with_physical;
 use crate::state::State;
@@ -76,6 +76,14 @@ pub(crate) fn put_place(places: &mut Vec<Option<usize>>, at: usize, place: usize
     }
 }
 
+/// What the paths that need the one at a place come to may be still to be worked out.
+fn note_users(unlooked: &mut Unlooked, at: usize) {
+    match unlooked {
+        Unlooked::Nothing => *unlooked = Unlooked::UsersOf { at },
+        Unlooked::UsersOf { .. } | Unlooked::Anything => *unlooked = Unlooked::Anything,
+    }
+}
+
 /// Notes that a resource of a path joins those that the operation made, where the path has a place; else nothing is said of the
 /// findings.
 fn note_made(state: &State, findings: &mut Findings, path: &Txt) -> bool
@@ -86,6 +94,7 @@ fn note_made(state: &State, findings: &mut Findings, path: &Txt) -> bool
     match forget_users(state, &mut findings.found, path) {
         Some(at) => {
             put_place(&mut findings.made, at, state.made.len());
+            note_users(&mut findings.unlooked, at);
             true
         }
         None => false,
@@ -112,7 +121,10 @@ fn note_changed(state: &State, findings: &mut Findings, physical: &Txt) -> bool
 {
     match resource_with(state, physical) {
         Some(held) => match forget_users(state, &mut findings.found, &held.path) {
-            Some(_) => true,
+            Some(at) => {
+                note_users(&mut findings.unlooked, at);
+                true
+            }
             None => false,
         },
         None => false,

@@ -78,7 +78,7 @@ impl Layout {
 }
 
 /// Puts a place under a path, unless there is one already. After an error nothing is said of the places.
-fn put_place(
+pub(crate) fn put_place(
     alloc: Global,
     places: &mut ByName<usize>,
     path: &Txt,

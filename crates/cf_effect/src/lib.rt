@@ -11,6 +11,7 @@ mod findings;
 mod following;
 mod heard;
 mod held;
+mod index;
 mod layout;
 mod ledger;
 mod lines;
@@ -29,7 +30,7 @@ pub use call::{Call, Ledger, Settled, new_call};
 pub use cf_export::{Output, Outputs};
 pub use effect::effect_at;
 pub use events::intent_line;
-pub use findings::{Findings, Found, find_at, findings_of, layout_of, look};
+pub use findings::{Findings, Found, Unlooked, find_at, findings_of, layout_of, look};
 pub use following::follow;
 pub use heard::{HeardEntries, HeardEntry};
 pub use held::{

@@ -8,7 +8,7 @@ use Rattle.cf_eval.specs.Gives.{got_found, member_found, Stops, got_value, any_l
 use Rattle.cf_eval.specs.Scope.{Scope}
 use Rattle.cf_eval.specs.Functions.{outcomes, paired, sub_found, select_found, find_found}
 use Rattle.cf_tree.specs.declared.parts.Part.{Part}
-use Rattle.cf_eval.specs.Value.{named, pairs_found, dict_found}
+use Rattle.cf_eval.specs.Value.{named, dict_found}
 use Rattle.cf_eval.specs.declared.fault.Stop as broken
 use Rattle.cf_eval.specs.declared.fault.Stop.TheVariants as stop
 use Rattle.cf_eval.specs.declared.got.Got.{Got}
@@ -156,9 +156,3 @@ sub_stops sc at fs parts (stop.Bad why place) h = rw h refl
 sub_stops sc at fs parts (stop.Below why stack place) h = rw h refl
 sub_stops sc at fs parts (stop.Undecided name place) h = rw h refl
 sub_stops sc at fs parts stop.NoMemory h = tt
-
-pub pairs_stop : (fs : List (List ℕ × Found)) (s : broken.Stop) → Stops (each (outcomes fs)) s → Stops (pairs_found fs) s
-pairs_stop fs (stop.Bad why at) h = rw (named_stop fs _ h) refl
-pairs_stop fs (stop.Below why stack at) h = rw (named_stop fs _ h) refl
-pairs_stop fs (stop.Undecided name at) h = rw (named_stop fs _ h) refl
-pairs_stop fs stop.NoMemory h = tt

@@ -4,7 +4,7 @@ use Rattle.std.specs.Cmp.{first_so, second_so}
 use Rattle.cf_tree.specs.Datum.{Data}
 use Rattle.cf_tree.specs.Forms.{Form, Node, Forms, Fields, expr, lit, ref, get_att, sub, join, select, split, choice, find_in_map, import_value, base64, no_forms, form, no_fields, field}
 use Rattle.cf_tree.specs.Forms as node
-use Rattle.cf_eval.specs.Outcome.{Outcome, Stop, fault, below, undecided, got, later, bad, on_got, after_later, both, each}
+use Rattle.cf_eval.specs.Outcome.{Outcome, Stop, fault, below, undecided, got, later, bad, on_got, after_later, both, each, undeclared_at_fault}
 use Rattle.cf_eval.specs.Scope.{Scope, Beyond, open_to, closed_to}
 use Rattle.cf_eval.specs.Texts.{Found, known, within, as_text, as_list, wanted_text, wanted_list, wanted_index}
 use Rattle.std.specs.Prelude.{⊤, cond, unwrap_or, option_map, codes, ℤ}
@@ -20,9 +20,8 @@ use Rattle.cf_eval.specs.declared.env.OutputSight.{OutputSight}
 use Rattle.cf_eval.specs.declared.env.OutputSight.TheVariants as output
 use Rattle.cf_eval.specs.declared.fault.EvalWhy.TheVariants.{UnknownName, UnknownAttribute, WrongKind}
 use Rattle.cf_eval.specs.Functions.{or_fault, or_later, text_value, id_of, resource_ref, setting_found, pseudo_ref, ref_found, output_found, attribute_found, attribute_in, get_att_found, cut_found, name_found, piece_found, put_together, outcomes, sub_found, join_found, split_found, select_found, value_in_mapping, under_key, paired, find_found, if_found, imported, import_found, base64_found}
-use Rattle.cf_eval.specs.Value.{form_found, node_found, forms_found, fields_found, blamed, named, list_found, pairs_found, dict_found}
+use Rattle.cf_eval.specs.Value.{form_found, node_found, forms_found, fields_found, blamed, named, list_found, pairs_found, dict_found, value_of}
 use Rattle.cf_eval.specs.Knows.{KnowsMore, StaysKnown, KeepsSetting, KeepsOutput, KeepsSight, KeepsBeyond, KeepsOutcome, KeepsFaults, BrokenStay, BrokenBeyond, is_broken, is_fault, is_later, names_imports, node_names_imports, all_name_imports, fields_name_imports, Stays, ValuesStay}
-use Rattle.cf_eval.specs.Env.{scope_in, plain}
 
 -- y stands where x stood: what x is known to be stays, and, where b says so, that it is a fault
 abbrev pub Stands : {A : Type 0} → Bool → Outcome A → Outcome A → Type 0
@@ -315,40 +314,40 @@ stands_fault (got a) y h e = absurd (true≢false (sym e))
 stands_fault later y h e = absurd (true≢false (sym e))
 stands_fault (bad w) y h e = h
 
-plain_got : (x : Found) (v : Option Data) → plain x ≡ got v → x ≡ got v
-plain_got (got a) v h = h
-plain_got later v h = h
-plain_got (bad (fault why at)) v h = h
-plain_got (bad (below why stack at)) v h = h
-plain_got (bad (undecided name at)) v h = let no : ⊥ = cc in absurd no
+pub undeclared_got : {A : Type 0} (x : Outcome A) (v : A) → undeclared_at_fault x ≡ got v → x ≡ got v
+undeclared_got (got a) v h = h
+undeclared_got later v h = h
+undeclared_got (bad (fault why at)) v h = h
+undeclared_got (bad (below why stack at)) v h = h
+undeclared_got (bad (undecided name at)) v h = let no : ⊥ = cc in absurd no
 
-plain_fault : (x : Found) → is_fault (plain x) ≡ is_fault x
-plain_fault (got a) = refl
-plain_fault later = refl
-plain_fault (bad (fault why at)) = refl
-plain_fault (bad (below why stack at)) = refl
-plain_fault (bad (undecided name at)) = refl
+undeclared_fault : (x : Found) → is_fault (undeclared_at_fault x) ≡ is_fault x
+undeclared_fault (got a) = refl
+undeclared_fault later = refl
+undeclared_fault (bad (fault why at)) = refl
+undeclared_fault (bad (below why stack at)) = refl
+undeclared_fault (bad (undecided name at)) = refl
 
-pub plain_stands : {A : Type 0} (x y : Outcome A) → Stands false x y → Stands false (plain x) (plain y)
-plain_stands (got a) y h = ap plain h
-plain_stands later y h = tt
-plain_stands (bad (fault why at)) y h = tt
-plain_stands (bad (undecided name at)) y h = tt
-plain_stands (bad (below why stack at)) y h = tt
+pub undeclared_stands : {A : Type 0} (x y : Outcome A) → Stands false x y → Stands false (undeclared_at_fault x) (undeclared_at_fault y)
+undeclared_stands (got a) y h = ap undeclared_at_fault h
+undeclared_stands later y h = tt
+undeclared_stands (bad (fault why at)) y h = tt
+undeclared_stands (bad (undecided name at)) y h = tt
+undeclared_stands (bad (below why stack at)) y h = tt
 
 -- of values alone
 module _ (s t : Scope) (k : KnowsMore s t) where
   pub form_value_stands : (around : Option (List ℕ)) (e : Form) → Stands false (form_found s around e) (form_found t around e)
   form_value_stands around e = form_stands s t k false (λ h. absurd (true≢false (sym h))) around e (λ h. absurd (true≢false (sym h)))
 
-  pub plain_value_stands : (e : Form) → Stands false (plain (form_found s None e)) (plain (form_found t None e))
-  plain_value_stands e = plain_stands (form_found s None e) (form_found t None e) (form_value_stands None e)
+  pub value_stands : (e : Form) → Stands false (value_of s e) (value_of t e)
+  value_stands e = undeclared_stands (form_found s None e) (form_found t None e) (form_value_stands None e)
 
 -- knowing more never changes what was known
 pub knowing_more : ValuesStay
-knowing_more a b k e = record {
-  value = λ v known. ap plain (stands_got (form_found (scope_in a) None e) (form_found (scope_in b) None e) v (form_value_stands (scope_in a) (scope_in b) k None e) (plain_got _ v known));
+knowing_more s t k e = record {
+  value = λ v known. ap undeclared_at_fault (stands_got (form_found s None e) (form_found t None e) v (form_value_stands s t k None e) (undeclared_got _ v known));
   fault = λ kept h.
-      plain_fault (form_found (scope_in b) None e)
-      ∙ stands_fault (form_found (scope_in a) None e) (form_found (scope_in b) None e) (form_stands (scope_in a) (scope_in b) k true (λ _. kept.0) None e (λ _. kept.1)) (sym (plain_fault (form_found (scope_in a) None e)) ∙ h);
+      undeclared_fault (form_found t None e)
+      ∙ stands_fault (form_found s None e) (form_found t None e) (form_stands s t k true (λ _. kept.0) None e (λ _. kept.1)) (sym (undeclared_fault (form_found s None e)) ∙ h);
 }

@@ -3,7 +3,7 @@ pub mod Each
 pub mod Looking
 pub mod Lists
 pub mod Gots
-pub mod Tells
+pub mod Refusing
 pub mod Compared
 pub mod TestFalls
 pub mod Verdicts

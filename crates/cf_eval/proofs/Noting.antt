@@ -12,7 +12,7 @@ use Rattle.cf_tree.specs.declared.bound.Verdict.TheVariants as verdict
 use Rattle.cf_eval.specs.declared.fault.EvalWhy.TheVariants.{UnknownName, CircularCondition}
 use Rattle.cf_eval.specs.Outcome.{Outcome, Stop, fault, below, undecided, got, later, bad, on_got}
 use Rattle.cf_eval.specs.Scope.{Scope, decided_at}
-use Rattle.cf_eval.specs.ScopeOf.{among, verdict_of}
+use Rattle.cf_eval.specs.Scope.{verdict_among, verdict_of}
 use Rattle.cf_eval.specs.Functions.{or_fault}
 use Rattle.cf_eval.specs.Conditions.{test_found, condition_found, decided_by}
 use Rattle.cf_eval.specs.Gives.{part_of, Stops}
@@ -96,9 +96,9 @@ module _ (s : Scope) (conds : List (List ℕ × Test)) (done : List (List ℕ ×
   agree_at left under at name apart enough None e = λ w h. h
 
   pub looked_at : (left : ℕ) (under : List (List ℕ)) (c : Test) → Apart under done → left_of under conds ≤ left
-      → Agrees (condition_found left s conds under) (test_found (decided_by (among done) s) None c) (test_found (decided_by (condition_found left s conds under) s) None c)
+      → Agrees (condition_found left s conds under) (test_found (decided_by (verdict_among done) s) None c) (test_found (decided_by (condition_found left s conds under) s) None c)
   looked_at left under c apart enough =
-      test_agrees (condition_found left s conds under) (among done) s (λ at name. agree_at left under at name apart enough (value_at name done) refl) None c
+      test_agrees (condition_found left s conds under) (verdict_among done) s (λ at name. agree_at left under at name apart enough (value_at name done) refl) None c
 
 -- what the code reads off a condition that it looked at
 module _ (s : Scope) (conds : List (List ℕ × Test)) where
@@ -116,7 +116,7 @@ module _ (s : Scope) (conds : List (List ℕ × Test)) where
 
   -- one condition more is noted
   noted_one : (done : List (List ℕ × Verdict)) (name : List ℕ) (v : Verdict) (c : Test) → AreNotedRight s conds done → value_at name done ≡ None → value_at name conds ≡ Some c
-      → test_found (decided_by (among done) s) None c ≡ part_of (verdict_of v)
+      → test_found (decided_by (verdict_among done) s) None c ≡ part_of (verdict_of v)
       → (left : ℕ) (under : List (List ℕ)) (at : List ℕ) → Apart under (put name v done) → left_of under conds ≤ left → condition_found left s conds under at name ≡ part_of (verdict_of v)
   noted_one done name v c right fresh is verdict left under at apart enough =
       by_left left enough where
@@ -145,7 +145,7 @@ module _ (s : Scope) (conds : List (List ℕ × Test)) where
             ∙ plain_part (condition_found l s conds (under ++ name ∷ [])) v _ _ verdict (looked_at s conds done right l (under ++ name ∷ []) c apart_now (omega (arith, less)))
 
   pub right_put : (done : List (List ℕ × Verdict)) (name : List ℕ) (v : Verdict) (c : Test) → AreNotedRight s conds done → value_at name done ≡ None → value_at name conds ≡ Some c
-      → test_found (decided_by (among done) s) None c ≡ part_of (verdict_of v) → AreNotedRight s conds (put name v done)
+      → test_found (decided_by (verdict_among done) s) None c ≡ part_of (verdict_of v) → AreNotedRight s conds (put name v done)
   right_put done name v c right fresh is verdict m w h left under at apart enough = by_name (bytes_eq m name) refl where
     by_name : (b : Bool) → bytes_eq m name ≡ b → condition_found left s conds under at m ≡ part_of (verdict_of w)
     by_name true e =
@@ -194,10 +194,10 @@ asked_at done at name (Some verdict.False) e = tt
 asked_at done at name (Some verdict.Later) e = tt
 asked_at done at name None e = e
 
-pub asked_fresh : (s : Scope) (done : List (List ℕ × Verdict)) (c : Test) (name at : List ℕ) → test_found (decided_by (among done) s) None c ≡ bad (undecided name at) → value_at name done ≡ None
+pub asked_fresh : (s : Scope) (done : List (List ℕ × Verdict)) (c : Test) (name at : List ℕ) → test_found (decided_by (verdict_among done) s) None c ≡ bad (undecided name at) → value_at name done ≡ None
 asked_fresh s done c name at e =
-    let open' : Asks (λ place m. value_at m done ≡ None) (test_found (decided_by (among done) s) None c) =
-    asks_test (λ place m. value_at m done ≡ None) (decided_by (among done) s) (λ place m. asked_at done place m (value_at m done) refl) None c in
+    let open' : Asks (λ place m. value_at m done ≡ None) (test_found (decided_by (verdict_among done) s) None c) =
+    asks_test (λ place m. value_at m done ≡ None) (decided_by (verdict_among done) s) (λ place m. asked_at done place m (value_at m done) refl) None c in
     let open'' : Asks (λ place m. value_at m done ≡ None) {A = Bool} (bad (undecided name at)) = subst (Asks (λ place m. value_at m done ≡ None) {A = Bool}) e open' in
     open''
 

@@ -17,7 +17,7 @@ use Rattle.cf_eval.specs.declared.fault.Stop.TheVariants as stop
 use Rattle.cf_eval.specs.Outcome.{Outcome, got, later, bad, each}
 use Rattle.cf_eval.proofs.Each.{each_after, each_is}
 use Rattle.cf_eval.specs.Scope.{Scope}
-use Rattle.cf_eval.specs.ScopeOf.{verdict_of}
+use Rattle.cf_eval.specs.Scope.{verdict_of}
 use Rattle.cf_eval.specs.Conditions.{condition_found, conditions_found, verdict_found, noted_verdict}
 use Rattle.cf_eval.specs.Deciding.{Apart, AreNotedRight, left_of, noted_of}
 use Rattle.cf_eval.specs.Gives.{part_of, Stops}

@@ -1,13 +1,14 @@
 -- What the conditions of a template come to (template reference, condition functions).
 use Rattle.std.specs.Prelude.{ℕ, zero, suc, Bool, not, List, [], ◌∷◌, ◌++◌, length, Option, Some, None, map, option_map, unwrap_or, if◌then◌else◌}
 use Rattle.std.specs.List.{list_all, list_any}
+use Rattle.cf_tree.specs.declared.template.Template.{Template}
 use Rattle.cf_tree.specs.Datum.{Data, Items, text, whole, truth, list, dict, no_items, item}
 use Rattle.cf_tree.specs.Keys.{value_at}
 use Rattle.cf_tree.specs.Lists.{is_among}
 use Rattle.cf_tree.specs.Same.{same_data}
 use Rattle.cf_tree.specs.Tests.{Test, TestNode, Tests, cond, equals, negation, all_of, any_of, named, no_tests, test, place_of_test}
-use Rattle.cf_eval.specs.Outcome.{Outcome, got, later, bad, fault, on_got, both, each, or_wrong}
-use Rattle.cf_eval.specs.Scope.{Scope}
+use Rattle.cf_eval.specs.Outcome.{Outcome, got, later, bad, fault, on_got, both, each, or_wrong, undeclared_at_fault}
+use Rattle.cf_eval.specs.Scope.{Scope, Settings, condition_scope}
 use Rattle.cf_eval.specs.Texts.{Found, truth_text}
 use Rattle.cf_eval.specs.Functions.{or_fault}
 use Rattle.cf_eval.specs.Value.{form_found}
@@ -95,3 +96,11 @@ verdict_found s conds c = on_got (noted_verdict (condition_found (length conds) 
 -- all conditions, decided in the order of their names
 abbrev pub conditions_found : Scope → List (List ℕ × Test) → Outcome (List (List ℕ × Option Bool))
 conditions_found s conds = each (map (verdict_found s conds) conds)
+
+-- the scope of a template's conditions, which may refer to none of its resources
+abbrev pub scope_within : Template → Settings → List (List ℕ × Data) → Scope
+scope_within template bound pseudo = condition_scope template.mappings bound pseudo (map (λ r. r.name) template.resources)
+
+-- what the conditions of a template come to
+abbrev pub conditions_of : Template → Settings → List (List ℕ × Data) → Outcome (List (List ℕ × Option Bool))
+conditions_of template bound pseudo = undeclared_at_fault (conditions_found (scope_within template bound pseudo) template.conds)

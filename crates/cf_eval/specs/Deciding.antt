@@ -1,14 +1,13 @@
 -- How conditions are decided, each one once: what is noted of those that are decided, and what stays to be done (this project's own).
 use Rattle.std.specs.Prelude.{◌≡◌, ℕ, suc, ◌≤◌, Bool, length, map, true, List, [], ◌∷◌, ◌++◌, Option, Some, None, IsSome, is_some, Result, Ok, Err, option_map, if◌then◌else◌}
-use Rattle.cf_eval.specs.declared.decide.Ground as over
+use Rattle.cf_eval.specs.declared.decide.ConditionContext as over
 use Rattle.cf_tree.specs.Keys.{value_at}
 use Rattle.cf_tree.specs.Lists.{is_among}
 use Rattle.cf_tree.specs.Tests.{Test}
 use Rattle.cf_tree.specs.declared.bound.Verdict.{Verdict}
 use Rattle.cf_eval.specs.declared.fault.Stop as broken
-use Rattle.cf_eval.specs.Outcome.{Outcome, got, bad, undecided}
-use Rattle.cf_eval.specs.Scope.{Scope, closed_to}
-use Rattle.cf_eval.specs.ScopeOf.{among, setting_of, verdict_of}
+use Rattle.cf_eval.specs.Outcome.{Outcome, got}
+use Rattle.cf_eval.specs.Scope.{Scope, verdict_among, condition_scope, verdict_of}
 use Rattle.cf_eval.specs.Conditions.{test_found, condition_found, decided_by}
 use Rattle.cf_eval.specs.Gives.{part_of, Stops}
 
@@ -38,7 +37,7 @@ pub record IsDecided (s : Scope) (conds : List (List ℕ × Test)) (under : List
   pub right : AreNotedRight s conds new
   pub extends : Extends old new
   pub apart : Apart under new
-  pub verdict : test_found (decided_by (among new) s) None c ≡ part_of (verdict_of v)
+  pub verdict : test_found (decided_by (verdict_among new) s) None c ≡ part_of (verdict_of v)
 
 -- a condition was decided under its name
 pub record IsNoted (s : Scope) (conds : List (List ℕ × Test)) (under : List (List ℕ)) (old new : List (List ℕ × Verdict)) (name : List ℕ)
@@ -50,14 +49,8 @@ pub record IsNoted (s : Scope) (conds : List (List ℕ × Test)) (under : List (
   pub declared : IsSome (value_at name conds)
 
 -- what is decided over: parameters, mappings, pseudo parameters, and the names of the resources, none of which may be referred to
-abbrev pub ground_of : over.Ground → Scope
-ground_of g = record {
-  params = λ name. option_map setting_of (value_at name g.params.now);
-  mapping = λ name. value_at name g.mappings.now;
-  pseudo = g.pseudo.now;
-  decided = λ at name. bad (undecided name at);
-  beyond = closed_to g.resources.now;
-}
+abbrev pub context_scope : over.ConditionContext → Scope
+context_scope g = condition_scope g.mappings.now g.params.now g.pseudo.now g.resources.now
 
 -- how many conditions are not decided
 abbrev pub open_of : List (List ℕ × Verdict) → List (List ℕ × Test) → ℕ
@@ -65,16 +58,16 @@ open_of done [] = 0
 open_of done (c ∷ cs) = if is_some (value_at c.0 done) then open_of done cs else suc (open_of done cs)
 
 -- what `decide` answers: a verdict, or the fault that the condition has while those of `under` are under way
-abbrev pub DecidesAs : over.Ground → ℕ → List (List ℕ) → List (List ℕ) → List (List ℕ × Verdict) → List (List ℕ × Verdict) → Test
+abbrev pub DecidesAs : over.ConditionContext → ℕ → List (List ℕ) → List (List ℕ) → List (List ℕ × Verdict) → List (List ℕ × Verdict) → Test
     → Result Verdict broken.Stop → Type 0
-DecidesAs g left under still old new c (Ok v) = IsDecided (ground_of g) g.conds.now under old new c v × (still ≡ under)
+DecidesAs g left under still old new c (Ok v) = IsDecided (context_scope g) g.conds.now under old new c v × (still ≡ under)
 DecidesAs g left under still old new c (Err w) =
-    Stops (test_found (decided_by (condition_found left (ground_of g) g.conds.now under) (ground_of g)) None c) w
+    Stops (test_found (decided_by (condition_found left (context_scope g) g.conds.now under) (context_scope g)) None c) w
 
 -- what `enter` and `descend` answer
-abbrev pub Notes : over.Ground → List (List ℕ) → List (List ℕ) → List (List ℕ × Verdict) → List (List ℕ × Verdict) → List ℕ
+abbrev pub Notes : over.ConditionContext → List (List ℕ) → List (List ℕ) → List (List ℕ × Verdict) → List (List ℕ × Verdict) → List ℕ
     → (broken.Stop → Type 0) → Result Verdict broken.Stop → Type 0
-Notes g under still old new name stops (Ok v) = IsNoted (ground_of g) g.conds.now under old new name v × (still ≡ under)
+Notes g under still old new name stops (Ok v) = IsNoted (context_scope g) g.conds.now under old new name v × (still ≡ under)
 Notes g under still old new name stops (Err w) = stops w
 
 -- what `settle` answers of a condition that nothing is under way for

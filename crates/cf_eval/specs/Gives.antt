@@ -11,7 +11,7 @@ use Rattle.cf_eval.specs.declared.fault.Stop.TheVariants as stop
 use Rattle.cf_eval.specs.Outcome.{Outcome, got, later, bad, fault, undecided, below, each}
 use Rattle.cf_eval.specs.Texts.{Found, known}
 use Rattle.cf_eval.specs.Functions.{outcomes}
-use Rattle.cf_eval.specs.ScopeOf.{verdict_of}
+use Rattle.cf_eval.specs.Scope.{verdict_of}
 use Rattle.cf_tree.specs.declared.bound.Verdict.{Verdict}
 
 -- what an answer says

@@ -1,4 +1,4 @@
--- Knowing more never changes what was known: what it is to know more, and what stays.
+-- Knowing more never changes what was known: what it is to know more, and what stays (this project's own law).
 use Rattle.std.specs.Prelude.{◌≡◌, ℕ, List, Bool, true, false, ◌&&◌, not, Option, Some, None, IsTrue, ⊤}
 use Rattle.cf_tree.specs.Datum.{Data}
 use Rattle.cf_tree.specs.Forms.{Form, Node, Forms, Fields, expr, lit, ref, get_att, sub, join, select, split, choice, find_in_map, import_value, base64, no_forms, form, no_fields, field}
@@ -11,9 +11,7 @@ use Rattle.cf_eval.specs.declared.env.OutputSight.TheVariants as output
 use Rattle.cf_eval.specs.Outcome.{Outcome, got, later, bad}
 use Rattle.cf_eval.specs.Scope.{Scope, Beyond, open_to, closed_to}
 use Rattle.cf_eval.specs.Texts.{Found}
-use Rattle.cf_eval.specs.Value.{form_found}
-use Rattle.cf_eval.specs.Env.{scope_in, value_of}
-use Rattle.cf_eval.specs.declared.env.Env as given
+use Rattle.cf_eval.specs.Value.{form_found, value_of}
 
 -- what was known stays so; what was not may be anything
 abbrev pub StaysKnown : {A : Type 0} → Option A → Option A → Type 0
@@ -133,5 +131,5 @@ pub record Stays (x y : Found) (kept : Type 0) : Type 0 where
 -- is Later
 abbrev pub ValuesStay : Type 0
 ValuesStay =
-    (a b : given.Env) → KnowsMore (scope_in a) (scope_in b) → (e : Form)
-    → Stays (value_of a e) (value_of b e) (KeepsFaults (scope_in a) (scope_in b) × IsTrue (names_imports (scope_in a) e))
+    (s t : Scope) → KnowsMore s t → (e : Form)
+    → Stays (value_of s e) (value_of t e) (KeepsFaults s t × IsTrue (names_imports s e))

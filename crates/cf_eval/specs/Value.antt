@@ -1,11 +1,11 @@
 -- What an expression comes to: one equation for each form, over the values of its parts (template reference, intrinsic functions; the
 -- order of parts is this project's own).
-use Rattle.std.specs.Prelude.{ℕ, List, [], ◌∷◌, Option, Some, None, fold, filter_map, map, unwrap_or}
+use Rattle.std.specs.Prelude.{ℕ, List, [], ◌∷◌, Option, Some, None, Result, Ok, Err, fold, filter_map, map, unwrap_or}
 use Rattle.cf_tree.specs.Datum.{Data, list, dict, items_of, members_of}
 use Rattle.cf_tree.specs.Keys.{put}
 use Rattle.cf_tree.specs.Forms.{Form, Node, Forms, Fields, expr, lit, ref, get_att, sub, join, select, split, choice, find_in_map, import_value, base64, no_forms, form, no_fields, field}
 use Rattle.cf_tree.specs.Forms as node
-use Rattle.cf_eval.specs.Outcome.{Outcome, got, on_got, each}
+use Rattle.cf_eval.specs.Outcome.{Outcome, Stop, got, later, bad, on_got, each, undeclared_at_fault}
 use Rattle.cf_eval.specs.Scope.{Scope}
 use Rattle.cf_eval.specs.Texts.{Found, known, within}
 use Rattle.cf_eval.specs.Functions.{ref_found, get_att_found, sub_found, join_found, select_found, split_found, if_found, find_found, import_found, base64_found}
@@ -63,3 +63,25 @@ abbrev mutual
   pub fields_found : Scope → Option (List ℕ) → Fields → List (List ℕ × Found)
   fields_found s around no_fields = []
   fields_found s around (field name e ps) = (name, form_found s around e) ∷ fields_found s around ps
+
+-- what an expression comes to, in a function at a place where there is one
+abbrev pub value_within : Scope → Option (List ℕ) → Form → Found
+value_within s around e = undeclared_at_fault (form_found s around e)
+
+abbrev pub value_of : Scope → Form → Found
+value_of s e = value_within s None e
+
+-- Properties, one by one: one that is `AWS::NoValue` is left out, one that is Later is None; the first fault is the answer.
+abbrev pub PropsFound : Type 0
+PropsFound = Result (List (List ℕ × Option Data)) Stop
+
+abbrev pub with_prop : List ℕ → Found → PropsFound → PropsFound
+with_prop name (bad s) rest = Err s
+with_prop name found (Err s) = Err s
+with_prop name (got None) (Ok ps) = Ok ps
+with_prop name (got (Some d)) (Ok ps) = Ok ((name, Some d) ∷ ps)
+with_prop name later (Ok ps) = Ok ((name, None) ∷ ps)
+
+abbrev pub props_of : Scope → List (List ℕ × Form) → PropsFound
+props_of s [] = Ok []
+props_of s (p ∷ ps) = with_prop p.0 (value_of s p.1) (props_of s ps)

@@ -68,7 +68,7 @@ pub(crate) fn dict_of(alloc: Global, bound: Vec<(Txt, Got)>) -> Result<Got, Stop
     Ok(Got::Value(Val::Dict(values)))
 }
 
-pub(crate) fn known_members(alloc: Global, bound: Vec<(Txt, Got)>) -> Result<Dict, AllocError>
+fn known_members(alloc: Global, bound: Vec<(Txt, Got)>) -> Result<Dict, AllocError>
     ensures { IfOk result (λ d. d ≡ fold put_known [] (map named_value bound.items)) }
 {
     let mut members = Dict::new(alloc);

@@ -1,12 +1,12 @@
 //! What the conditions of a template come to.
 ghost use Rattle.std.specs.Prelude.{◌≡◌, Some, IfOk, map};
 ghost use Rattle.cf_tree.specs.Keys.{value_at};
-ghost use Rattle.cf_eval.specs.Conditions.{conditions_found};
-ghost use Rattle.cf_eval.specs.Deciding.{Answers, AreNotedRight, GivesConds, ground_of};
-ghost use Rattle.cf_eval.specs.Env.{Decides, conditions_of};
+ghost use Rattle.cf_eval.specs.Conditions.{conditions_found, conditions_of};
+ghost use Rattle.cf_eval.specs.Deciding.{Answers, AreNotedRight, GivesConds, context_scope};
+ghost use Rattle.cf_eval.specs.Env.{Decides};
 
-use crate::decide::{Ground, descend};
-use crate::evaluation::told;
+use crate::decide::{ConditionContext, descend};
+use crate::evaluation::fault_by;
 use crate::fault::{EvalFault, Stop};
 use cf_tree::{Bound, Cond, CondMap, Dict, Names, Resources, Template, Txt, Verdict};
 use std::alloc::{AllocError, Global};
@@ -23,7 +23,7 @@ use std::alloc::{AllocError, Global};
 /// place of the innermost function around it. A condition that needs itself is
 /// `CircularCondition`, at the innermost function around the reference that comes back to it.
 /// `NoMemory`, where there is no memory for the map.
-#[tactic(auto, using(crate::proofs::Tells::told))]
+#[tactic(auto, using(crate::proofs::Refusing::is_refused))]
 pub fn conditions(
     alloc: Global,
     template: &Template,
@@ -36,16 +36,16 @@ pub fn conditions(
     let Ok(resources) = names_of(alloc, &template.resources) else {
         return Err(EvalFault::NoMemory);
     };
-    let ground = Ground {
+    let context = ConditionContext {
         params: bound,
         mappings: &template.mappings,
         pseudo,
         resources: &resources,
         conds: &template.conds,
     };
-    match decide_all(alloc, &ground) {
+    match decide_all(alloc, &context) {
         Ok(conds) => Ok(conds),
-        Err(stop) => Err(told(alloc, stack, stop)),
+        Err(stop) => Err(fault_by(alloc, stack, stop)),
     }
 }
 
@@ -61,13 +61,13 @@ fn names_of(alloc: Global, resources: &Resources) -> Result<Names, AllocError>
 }
 
 /// All conditions in the order of their names, up to the first fault.
-fn decide_all(alloc: Global, ground: &Ground) -> Result<CondMap, Stop>
-    ensures { GivesConds (conditions_found (ground_of ground.now) ground.now.conds.now) result }
+fn decide_all(alloc: Global, context: &ConditionContext) -> Result<CondMap, Stop>
+    ensures { GivesConds (conditions_found (context_scope context.now) context.now.conds.now) result }
 {
     let mut done = CondMap::new(alloc);
     let mut verdicts = Vec::new(alloc);
-    for condition in ground.conds.as_slice() {
-        match settle(alloc, ground, &condition.0, &condition.1, &mut done) {
+    for condition in context.conds.as_slice() {
+        match settle(alloc, context, &condition.0, &condition.1, &mut done) {
             Ok(verdict) => verdicts.push((condition.0.try_clone(alloc)?, verdict))?,
             Err(stop) => return Err(stop),
         }
@@ -78,19 +78,19 @@ fn decide_all(alloc: Global, ground: &Ground) -> Result<CondMap, Stop>
 /// A condition that is decided, or is decided now.
 fn settle(
     alloc: Global,
-    ground: &Ground,
+    context: &ConditionContext,
     name: &Txt,
     cond: &Cond,
     done: &mut CondMap,
 ) -> Result<Verdict, Stop>
-    requires right { AreNotedRight (ground_of ground.now) ground.now.conds.now done.old }
-    requires declared { value_at name.now ground.now.conds.now ≡ Some cond.now }
-    ensures { Answers (ground_of ground.now) ground.now.conds.now name.now done.new result }
+    requires right { AreNotedRight (context_scope context.now) context.now.conds.now done.old }
+    requires declared { value_at name.now context.now.conds.now ≡ Some cond.now }
+    ensures { Answers (context_scope context.now) context.now.conds.now name.now done.new result }
 {
     if let Some(verdict) = done.get(name.as_str()) {
         return Ok(*verdict);
     }
     let mut under = Vec::new(alloc);
-    let left = ground.conds.len();
-    descend(alloc, ground, left, &mut under, name, cond, done)
+    let left = context.conds.len();
+    descend(alloc, context, left, &mut under, name, cond, done)
 }

@@ -3,9 +3,9 @@ ghost use Rattle.std.specs.Prelude.{◌≡◌, ℕ, ◌≤◌, List, Some, None,
 ghost use Rattle.cf_tree.specs.Keys.{value_at};
 ghost use Rattle.cf_tree.specs.Lists.{is_among};
 ghost use Rattle.cf_eval.specs.Conditions.{condition_found, decided_by, test_found};
-ghost use Rattle.cf_eval.specs.Deciding.{Apart, AreNotedRight, Notes, DecidesAs, ground_of, left_of};
+ghost use Rattle.cf_eval.specs.Deciding.{Apart, AreNotedRight, Notes, DecidesAs, context_scope, left_of};
 ghost use Rattle.cf_eval.specs.Gives.{GivesVerdict, Stops};
-ghost use Rattle.cf_eval.specs.ScopeOf.{among};
+ghost use Rattle.cf_eval.specs.Scope.{verdict_among};
 
 use crate::fault::{EvalWhy, Stop};
 use crate::scope::{Beyond, Scope};
@@ -15,7 +15,7 @@ use std::alloc::Global;
 
 /// What conditions are decided over.
 #[derive(Drop)]
-pub(crate) struct Ground<'a> {
+pub(crate) struct ConditionContext<'a> {
     pub params: &'a Bound,
     pub mappings: &'a Mappings,
     pub pseudo: &'a Dict,
@@ -24,16 +24,21 @@ pub(crate) struct Ground<'a> {
 }
 
 /// A condition over those that are decided.
-fn look(alloc: Global, ground: &Ground, done: &CondMap, cond: &Cond) -> Result<Verdict, Stop>
-    ensures { GivesVerdict (test_found (decided_by (among done.now) (ground_of ground.now)) None cond.now) result }
+fn look(
+    alloc: Global,
+    context: &ConditionContext,
+    done: &CondMap,
+    cond: &Cond,
+) -> Result<Verdict, Stop>
+    ensures { GivesVerdict (test_found (decided_by (verdict_among done.now) (context_scope context.now)) None cond.now) result }
 {
     let scope = Scope {
-        params: ground.params,
-        mappings: ground.mappings,
-        pseudo: ground.pseudo,
+        params: context.params,
+        mappings: context.mappings,
+        pseudo: context.pseudo,
         conds: done,
         beyond: Beyond::Closed {
-            resources: ground.resources,
+            resources: context.resources,
         },
     };
     test(alloc, &scope, None, cond)
@@ -44,23 +49,23 @@ fn look(alloc: Global, ground: &Ground, done: &CondMap, cond: &Cond) -> Result<V
 #[cycle(decide)]
 fn decide(
     alloc: Global,
-    ground: &Ground,
+    context: &ConditionContext,
     left: usize,
     under: &mut Vec<Txt>,
     cond: &Cond,
     done: &mut CondMap,
 ) -> Result<Verdict, Stop>
-    requires right { AreNotedRight (ground_of ground.now) ground.now.conds.now done.old }
+    requires right { AreNotedRight (context_scope context.now) context.now.conds.now done.old }
     requires apart { Apart under.old.items done.old }
-    requires enough { left_of under.old.items ground.now.conds.now ≤ left }
-    ensures { DecidesAs ground.now left under.old.items under.new.items done.old done.new cond.now result }
+    requires enough { left_of under.old.items context.now.conds.now ≤ left }
+    ensures { DecidesAs context.now left under.old.items under.new.items done.old done.new cond.now result }
 {
     'deciding: loop {
-        match look(alloc, ground, done, cond) {
+        match look(alloc, context, done, cond) {
             Ok(verdict) => return Ok(verdict),
             Err(stop) => match stop {
                 Stop::Undecided { name, at } => {
-                    match enter(alloc, ground, left, under, &name, &at, done) {
+                    match enter(alloc, context, left, under, &name, &at, done) {
                         Ok(_) => {}
                         Err(stop) => return Err(stop),
                     }
@@ -77,18 +82,18 @@ fn decide(
 #[cycle(decide)]
 fn enter(
     alloc: Global,
-    ground: &Ground,
+    context: &ConditionContext,
     left: usize,
     under: &mut Vec<Txt>,
     name: &Txt,
     at: &Txt,
     done: &mut CondMap,
 ) -> Result<Verdict, Stop>
-    requires right { AreNotedRight (ground_of ground.now) ground.now.conds.now done.old }
+    requires right { AreNotedRight (context_scope context.now) context.now.conds.now done.old }
     requires apart { Apart under.old.items done.old }
-    requires enough { left_of under.old.items ground.now.conds.now ≤ left }
+    requires enough { left_of under.old.items context.now.conds.now ≤ left }
     requires fresh { value_at name.now done.old ≡ None }
-    ensures { Notes ground.now under.old.items under.new.items done.old done.new name.now (Stops (condition_found left (ground_of ground.now) ground.now.conds.now under.old.items at.now name.now)) result }
+    ensures { Notes context.now under.old.items under.new.items done.old done.new name.now (Stops (condition_found left (context_scope context.now) context.now.conds.now under.old.items at.now name.now)) result }
 {
     if is_among(name, under.as_slice()) {
         return Err(Stop::Bad {
@@ -96,8 +101,8 @@ fn enter(
             at: at.try_clone(alloc)?,
         });
     }
-    match ground.conds.get(name.as_str()) {
-        Some(cond) => descend(alloc, ground, left, under, name, cond, done),
+    match context.conds.get(name.as_str()) {
+        Some(cond) => descend(alloc, context, left, under, name, cond, done),
         None => Err(Stop::Bad {
             why: EvalWhy::UnknownName,
             at: at.try_clone(alloc)?,
@@ -109,25 +114,25 @@ fn enter(
 #[cycle(decide)]
 pub(crate) fn descend(
     alloc: Global,
-    ground: &Ground,
+    context: &ConditionContext,
     left: usize,
     under: &mut Vec<Txt>,
     name: &Txt,
     cond: &Cond,
     done: &mut CondMap,
 ) -> Result<Verdict, Stop>
-    requires right { AreNotedRight (ground_of ground.now) ground.now.conds.now done.old }
+    requires right { AreNotedRight (context_scope context.now) context.now.conds.now done.old }
     requires apart { Apart under.old.items done.old }
-    requires enough { left_of under.old.items ground.now.conds.now ≤ left }
+    requires enough { left_of under.old.items context.now.conds.now ≤ left }
     requires fresh { value_at name.now done.old ≡ None }
-    requires declared { value_at name.now ground.now.conds.now ≡ Some cond.now }
+    requires declared { value_at name.now context.now.conds.now ≡ Some cond.now }
     requires out { is_among name.now under.old.items ≡ false }
-    ensures { Notes ground.now under.old.items under.new.items done.old done.new name.now (λ w. (at : List ℕ) → Stops (condition_found left (ground_of ground.now) ground.now.conds.now under.old.items at name.now) w) result }
+    ensures { Notes context.now under.old.items under.new.items done.old done.new name.now (λ w. (at : List ℕ) → Stops (condition_found left (context_scope context.now) context.now.conds.now under.old.items at name.now) w) result }
 {
     let depth = under.len();
     let noted = name.try_clone(alloc)?;
     under.push(name.try_clone(alloc)?)?;
-    match decide(alloc, ground, left - 1, under, cond, done) {
+    match decide(alloc, context, left - 1, under, cond, done) {
         Ok(verdict) => {
             under.truncate(depth);
             done.insert(noted, verdict)?;

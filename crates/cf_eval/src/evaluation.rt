@@ -1,16 +1,17 @@
 //! The evaluation of expressions.
 ghost use Rattle.std.specs.Prelude.{◌≡◌};
 ghost use Rattle.std.specs.Option.{option_copied};
-ghost use Rattle.cf_eval.specs.Env.{scope_in, value_of, value_within, props_of, Evaluates, EvaluatesAll, IsStoppedBy};
+ghost use Rattle.cf_eval.specs.Env.{scope_in, Evaluates, IsStoppedBy};
 ghost use Rattle.cf_eval.specs.Knows.{ValuesStay};
 ghost use Rattle.cf_eval.specs.ScopeOf.{scope_of};
+ghost use Rattle.cf_eval.specs.Value.{value_of, value_within};
 
 use crate::env::Env;
 use crate::fault::{EvalFault, EvalWhy, Stop};
 use crate::got::Got;
 use crate::scope::{Beyond, Scope};
-use crate::value::{properties, value};
-use cf_tree::{Dict, Expr, ExprDict, Txt};
+use crate::value::value;
+use cf_tree::{Expr, Txt};
 use std::alloc::Global;
 
 /// What an expression comes to.
@@ -24,7 +25,7 @@ use std::alloc::Global;
 /// stack, and the place of the innermost function around it, or of the value where there is none.
 /// `NoMemory`, where there is no memory for the value.
 pub fn eval(alloc: Global, expr: &Expr, env: &Env) -> Result<Got, EvalFault>
-    ensures { Evaluates env.now.stack.now (value_of env.now expr.now) result }
+    ensures { Evaluates env.now.stack.now (value_of (scope_in env.now) expr.now) result }
 {
     eval_within(alloc, None, expr, env)
 }
@@ -35,36 +36,19 @@ pub fn eval(alloc: Global, expr: &Expr, env: &Env) -> Result<Got, EvalFault>
 /// # Errors
 ///
 /// As `eval`.
-#[tactic(auto, using(crate::proofs::Tells::told))]
+#[tactic(auto, using(crate::proofs::Refusing::is_refused))]
 pub fn eval_within(
     alloc: Global,
     around: Option<&Txt>,
     expr: &Expr,
     env: &Env,
 ) -> Result<Got, EvalFault>
-    ensures { Evaluates env.now.stack.now (value_within env.now (option_copied around.entry) expr.now) result }
+    ensures { Evaluates env.now.stack.now (value_within (scope_in env.now) (option_copied around.entry) expr.now) result }
 {
     let scope = open_scope(env);
     match value(alloc, &scope, around, expr) {
         Ok(got) => Ok(got),
-        Err(stop) => Err(told(alloc, env.stack, stop)),
-    }
-}
-
-/// What an object of expressions comes to, as the properties of a resource do: a member that is
-/// `AWS::NoValue` is left out, and the whole is `None` where a member is Later.
-///
-/// # Errors
-///
-/// As `eval`, with the first fault among the members.
-#[tactic(auto, using(crate::proofs::Tells::told))]
-pub fn eval_props(alloc: Global, props: &ExprDict, env: &Env) -> Result<Option<Dict>, EvalFault>
-    ensures { EvaluatesAll env.now.stack.now (props_of env.now props.now) result }
-{
-    let scope = open_scope(env);
-    match properties(alloc, &scope, props) {
-        Ok(values) => Ok(values),
-        Err(stop) => Err(told(alloc, env.stack, stop)),
+        Err(stop) => Err(fault_by(alloc, env.stack, stop)),
     }
 }
 
@@ -85,7 +69,7 @@ fn open_scope<'a>(env: &'a Env) -> Scope<'a>
 
 /// Why an evaluation stopped, as a fault of the nested stack at a path. A condition that is asked
 /// for and not decided is not declared.
-pub(crate) fn told(alloc: Global, stack: &Txt, stop: Stop) -> EvalFault
+pub(crate) fn fault_by(alloc: Global, stack: &Txt, stop: Stop) -> EvalFault
     ensures { IsStoppedBy stack.now stop result }
 {
     let Ok(stack) = stack.try_clone(alloc) else {
@@ -113,7 +97,7 @@ pub(crate) fn told(alloc: Global, stack: &Txt, stop: Stop) -> EvalFault
 
 /// Knowing more never changes what was known.
 ///
-/// Where an environment that agrees, and in which something is bound, seen or decided that was
+/// Where a scope that agrees, and in which something is bound, seen or decided that was
 /// Later, is put in place of another one, a value or `NoValue` stays the same. Where conditions and
 /// nested outputs that were at fault are so still, a fault stays a fault, unless it rests on an
 /// import whose name was Later. It does nothing when it runs.

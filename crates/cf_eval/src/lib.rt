@@ -20,7 +20,7 @@ mod verdict;
 
 pub use condition_map::conditions;
 pub use env::{Env, OutputSight, Sight};
-pub use evaluation::{eval, eval_props, eval_within, known_stays};
+pub use evaluation::{eval, eval_within, known_stays};
 pub use fault::{EvalFault, EvalWhy};
 pub use got::Got;
 pub use sights::{SeenAt, Sights, path_in};

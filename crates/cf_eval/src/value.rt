@@ -3,12 +3,12 @@ ghost use Rattle.std.specs.Prelude.{◌≡◌, Some, None};
 ghost use Rattle.std.specs.Option.{option_copied};
 ghost use Rattle.cf_tree.specs.Form.{node_of};
 ghost use Rattle.cf_tree.specs.Forms.{forms_of, fields_of};
-ghost use Rattle.cf_eval.specs.Value.{form_found, node_found, pairs_found, dict_found, forms_found, fields_found, blamed};
+ghost use Rattle.cf_eval.specs.Value.{form_found, node_found, dict_found, forms_found, fields_found, blamed};
 ghost use Rattle.cf_eval.specs.Functions.{sub_found, select_found, if_found, find_found};
-ghost use Rattle.cf_eval.specs.Gives.{Gives, GivesAll, GivesBindings, GivesPart};
+ghost use Rattle.cf_eval.specs.Gives.{Gives, GivesAll, GivesBindings};
 ghost use Rattle.cf_eval.specs.ScopeOf.{scope_of};
 
-use crate::collect::{dict_of, known_members, late_binding, list_of};
+use crate::collect::{dict_of, list_of};
 use crate::fault::Stop;
 use crate::functions::{base64, join, select, split};
 use crate::got::Got;
@@ -16,7 +16,7 @@ use crate::names::{find_in_map, get_att, import, reference};
 use crate::scope::Scope;
 use crate::sub::sub;
 use crate::texts::within;
-use cf_tree::{Dict, Expr, ExprDict, ExprNode, Exprs, Parts, Txt, Verdict};
+use cf_tree::{Expr, ExprDict, ExprNode, Exprs, Parts, Txt, Verdict};
 use std::alloc::Global;
 
 /// An expression, where the innermost function around it stands at `around`.
@@ -233,24 +233,4 @@ fn bindings(
         }
     }
     Ok(bound)
-}
-
-/// The members of an object outside functions, `None` where one is Later.
-#[tactic(auto, using(crate::proofs::Gots::pairs_stop, crate::proofs::Gots::each_of_bindings))]
-pub(crate) fn properties(
-    alloc: Global,
-    scope: &Scope,
-    pairs: &ExprDict,
-) -> Result<Option<Dict>, Stop>
-    ensures { GivesPart (pairs_found (fields_found (scope_of scope.now) None (fields_of pairs.now))) result }
-{
-    match bindings(alloc, scope, None, pairs) {
-        Ok(bound) => {
-            if late_binding(bound.as_slice()) {
-                return Ok(None);
-            }
-            Ok(Some(known_members(alloc, bound)?))
-        }
-        Err(stop) => Err(stop),
-    }
 }

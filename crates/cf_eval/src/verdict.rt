@@ -6,7 +6,8 @@ ghost use Rattle.cf_tree.specs.Tests.{tests_of};
 ghost use Rattle.cf_eval.specs.Conditions.{test_found, test_node_found, tests_found, all_found, any_found, equals_found};
 ghost use Rattle.cf_eval.specs.Outcome.{got, later, on_got};
 ghost use Rattle.cf_eval.specs.Gives.{got_found, part_of, GivesVerdict};
-ghost use Rattle.cf_eval.specs.ScopeOf.{scope_of, verdict_of};
+ghost use Rattle.cf_eval.specs.Scope.{verdict_of};
+ghost use Rattle.cf_eval.specs.ScopeOf.{scope_of};
 
 use crate::compare::equal;
 use crate::fault::{EvalWhy, Stop};

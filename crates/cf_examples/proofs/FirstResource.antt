@@ -102,7 +102,7 @@ legal = (([], opens), (([], begins), (([], intends), ((1 ∷ [], answers), (([],
 
 may_not_update : (out : List ℕ) → MayFollow schemas world out same_again → ⊥
 unfolding computing
-may_not_update out may = elim may.2.changing [ inl created ↦ true≢false (sym created) | inr c ↦ elim c [ inl rows ↦ true≢false rows | inr outputs ↦ true≢false (sym outputs) ] ]
+may_not_update out may = elim may.2.changing [ inl created ↦ true≢false (sym created) | inr same ↦ true≢false same ]
 
 pub updated_though_the_same : UpdatedThoughTheSame
 updated_though_the_same = refused_at world run same_again leaves may_not_update

@@ -50,7 +50,7 @@ t_in x = known_stack (codes "t") x
 
 may_reviewed : MayFollow schemas world_5 [] reviewed
 unfolding computing
-may_reviewed = (refl, refl, record { accepted = record { no_flaw = refl; known_types = refl; same_types = refl; imports = no_imports _ _ _ _ refl refl; free = refl; not_in_use = refl; changing = inl refl }; changing = inl refl; rows_are = refl; outputs_are = refl })
+may_reviewed = (refl, refl, record { accepted = record { no_flaw = refl; known_types = refl; same_types = refl; imports = no_imports _ _ _ _ refl refl; free = refl; not_in_use = refl; changing = inl refl }; changing = refl; rows_are = refl; outputs_are = refl })
 
 abbrev both : List (List ℕ × List ℕ)
 both = (codes "f1", file) ∷ (codes "r1", note) ∷ []
@@ -69,7 +69,7 @@ may_intended_b = (codes "t", t_in (behind 3), Forward, refl, refl, record { next
 
 may_updating : MayFollow schemas (behind 4) (2 ∷ []) updating
 unfolding computing
-may_updating = (refl, refl, record { no_flaw = refl; known_types = refl; same_types = refl; imports = no_imports _ _ _ _ refl refl; free = refl; not_in_use = refl; changing = inr (inl refl) })
+may_updating = (refl, refl, record { no_flaw = refl; known_types = refl; same_types = refl; imports = no_imports _ _ _ _ refl refl; free = refl; not_in_use = refl; changing = inr refl })
 
 may_intended_a : MayFollow schemas (behind 5) (2 ∷ []) intended_a
 unfolding computing

@@ -177,7 +177,7 @@ world_9 = record world_8 { stacks = (((codes "site"), stack_9_site) ∷ ((codes 
 
 may_updating : MayFollow schemas world_9 [] updating
 unfolding computing
-may_updating = (refl, refl, record { no_flaw = refl; known_types = refl; same_types = refl; imports = no_imports _ _ _ _ refl refl; free = refl; not_in_use = refl; changing = inr (inl refl) })
+may_updating = (refl, refl, record { no_flaw = refl; known_types = refl; same_types = refl; imports = no_imports _ _ _ _ refl refl; free = refl; not_in_use = refl; changing = inr refl })
 
 abbrev stack_10_site : StackState
 stack_10_site = record stack_9_site { status = status.UpdateInProgress; operation = 3; before = (a_1 ∷ []); going = Some (source_for (codes "site") 1 second); events = stack_9_site.events ++ (codes "event 10 - UPDATE_IN_PROGRESS") ∷ []; entries = (updating ∷ []); ledger = [] }

@@ -137,7 +137,7 @@ world_7 = record world_6 { stacks = (((codes "app"), stack_7_app) ∷ []); place
 
 may_updating : MayFollow schemas world_7 [] updating
 unfolding computing
-may_updating = (refl, refl, record { no_flaw = refl; known_types = refl; same_types = refl; imports = no_imports _ _ _ _ refl refl; free = refl; not_in_use = refl; changing = inr (inl refl) })
+may_updating = (refl, refl, record { no_flaw = refl; known_types = refl; same_types = refl; imports = no_imports _ _ _ _ refl refl; free = refl; not_in_use = refl; changing = inr refl })
 
 abbrev stack_8_app : StackState
 stack_8_app = record stack_7_app { status = status.UpdateInProgress; operation = 2; before = (web_1 ∷ ptr_1 ∷ []); going = Some (source_for (codes "app") 1 second); events = stack_7_app.events ++ (codes "event 8 - UPDATE_IN_PROGRESS") ∷ []; entries = (updating ∷ []); ledger = [] }
@@ -330,7 +330,7 @@ refused_1 = refused_at world_10 (take 10 run) (entry.Intent 2 4 (codes "f1") (co
 -- The record changes otherwise too.
 may_updating_both : MayFollow schemas world_7 [] updating_both
 unfolding computing
-may_updating_both = (refl, refl, record { no_flaw = refl; known_types = refl; same_types = refl; imports = no_imports _ _ _ _ refl refl; free = refl; not_in_use = refl; changing = inr (inl refl) })
+may_updating_both = (refl, refl, record { no_flaw = refl; known_types = refl; same_types = refl; imports = no_imports _ _ _ _ refl refl; free = refl; not_in_use = refl; changing = inr refl })
 
 abbrev stack_b8_app : StackState
 stack_b8_app = record stack_7_app { status = status.UpdateInProgress; operation = 2; before = (web_1 ∷ ptr_1 ∷ []); going = Some (source_for (codes "app") 1 third); entries = (updating_both ∷ []); events = stack_7_app.events ++ (codes "event 8 - UPDATE_IN_PROGRESS") ∷ []; ledger = [] }

@@ -134,7 +134,7 @@ world_7 = record world_6 { stacks = (((codes "app"), stack_7_app) ∷ []); place
 
 may_reviewed : MayFollow schemas world_7 [] reviewed
 unfolding computing
-may_reviewed = (refl, refl, record { accepted = record { no_flaw = refl; known_types = refl; same_types = refl; imports = no_imports _ _ _ _ refl refl; free = refl; not_in_use = refl; changing = inr (inl refl) }; changing = inl refl; rows_are = refl; outputs_are = refl })
+may_reviewed = (refl, refl, record { accepted = record { no_flaw = refl; known_types = refl; same_types = refl; imports = no_imports _ _ _ _ refl refl; free = refl; not_in_use = refl; changing = inr refl }; changing = refl; rows_are = refl; outputs_are = refl })
 
 abbrev stack_8_app : StackState
 stack_8_app = record stack_7_app { sets = (record { number = 1; source = source_for (codes "app") 0 second; rows = rows; outputs = false } ∷ []) }
@@ -174,7 +174,7 @@ refused_0 = refused_at world_7 (take 7 run) (entry.ChangeSet 1 (codes "app") sec
 
 may_updating : MayFollow schemas world_8 [] updating
 unfolding computing
-may_updating = (refl, refl, record { no_flaw = refl; known_types = refl; same_types = refl; imports = no_imports _ _ _ _ refl refl; free = refl; not_in_use = refl; changing = inr (inl refl) })
+may_updating = (refl, refl, record { no_flaw = refl; known_types = refl; same_types = refl; imports = no_imports _ _ _ _ refl refl; free = refl; not_in_use = refl; changing = inr refl })
 
 abbrev stack_9_app : StackState
 stack_9_app = record stack_8_app { status = status.UpdateInProgress; operation = 2; before = (web_1 ∷ rec_1 ∷ []); going = Some (source_for (codes "app") 1 second); sets = []; entries = (updating ∷ []); events = stack_8_app.events ++ (codes "event 9 - UPDATE_IN_PROGRESS") ∷ []; ledger = [] }

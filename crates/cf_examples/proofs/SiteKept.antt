@@ -29,7 +29,7 @@ use Rattle.cf_examples.specs.SiteKept.{other_hosts, updating, intended_home_chan
 
 may_updating : MayFollow schemas world_17 [] updating
 unfolding computing
-may_updating = (refl, refl, record { no_flaw = refl; known_types = refl; same_types = refl; imports = no_imports (codes "site") world_17 (source_for (codes "site") 1 other_hosts) _ refl refl; free = refl; not_in_use = refl; changing = inr (inl refl) })
+may_updating = (refl, refl, record { no_flaw = refl; known_types = refl; same_types = refl; imports = no_imports (codes "site") world_17 (source_for (codes "site") 1 other_hosts) _ refl refl; free = refl; not_in_use = refl; changing = inr refl })
 
 abbrev stack_18_site : StackState
 stack_18_site = record stack_13_site { status = status.UpdateInProgress; operation = 3; before = (audit_1 ∷ conf_1 ∷ home_1 ∷ main_1 ∷ size_1 ∷ []); going = Some (source_for (codes "site") 1 other_hosts); entries = (updating ∷ []); events = stack_13_site.events ++ (codes "event 18 - UPDATE_IN_PROGRESS") ∷ []; ledger = [] }

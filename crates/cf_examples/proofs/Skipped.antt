@@ -157,7 +157,7 @@ refused_1 = refused_at world_15 (take 15 run) continued until_15.arrives may_not
 
 may_reviewed : MayFollow schemas world_19 [] (reviewed rows)
 unfolding computing
-may_reviewed = (refl, refl, record { accepted = record { no_flaw = refl; known_types = refl; same_types = refl; imports = no_imports _ _ _ _ refl refl; free = refl; not_in_use = refl; changing = inr (inl refl) }; changing = inl refl; rows_are = refl; outputs_are = refl })
+may_reviewed = (refl, refl, record { accepted = record { no_flaw = refl; known_types = refl; same_types = refl; imports = no_imports _ _ _ _ refl refl; free = refl; not_in_use = refl; changing = inr refl }; changing = refl; rows_are = refl; outputs_are = refl })
 
 pub review_is_legal : ReviewIsLegal
 review_is_legal = followed (reviewed rows) until_19 [] may_reviewed

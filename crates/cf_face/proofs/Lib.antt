@@ -1,3 +1,4 @@
 pub mod Texts
 pub mod Spaced
 pub mod Joined
+pub mod Rising

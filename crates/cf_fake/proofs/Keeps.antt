@@ -66,7 +66,7 @@ pub live_more : (live : List Live) (ss : List Settled) (s : Settled) → live_af
 live_more live [] s = refl
 live_more live (x ∷ ss) s = live_more (live_changed x.request x.settlement live) ss s
 
-known-by : (a b c : Bool) → (b ≡ true → c ≡ true) → (a || b) ≡ true → (a || c) ≡ true
+pub known-by : (a b c : Bool) → (b ≡ true → c ≡ true) → (a || b) ≡ true → (a || c) ≡ true
 known-by true b c f h = refl
 known-by false b c f h = f h
 

@@ -1,3 +1,3 @@
 pub mod Changes
 pub mod Keeps
-pub mod First
+pub mod Free

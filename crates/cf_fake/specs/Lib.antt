@@ -1,5 +1,6 @@
 pub mod Table
 pub mod Live
+pub mod Noted
 pub mod Sound
 pub mod Refusable
 pub mod Plan

@@ -4,6 +4,7 @@
 mod answer;
 mod live;
 mod memory;
+mod noted;
 mod plan;
 mod planned;
 mod table;

@@ -1,17 +1,15 @@
 //! The live resources of a handler in memory.
-ghost use Rattle.std.specs.Prelude.{◌≡◌, ◌<◌, [], ◌∷◌, ◌++◌, length, map, filter, not, set, get_or, IsTrue, IfOk, IfSome, IfNone, Some, true, false, OnErr};
-ghost use Rattle.std.specs.List.{list_any, slice_get};
-ghost use Rattle.cf_tree.specs.Keys.{value_at};
-ghost use Rattle.cf_tree.specs.Value.{datum_of};
+ghost use Rattle.std.specs.Prelude.{◌≡◌, ◌<◌, [], ◌∷◌, ◌++◌, length, map, filter, not, set, get_or, IsTrue, IfOk, IfSome, IfNone, true, false, OnErr};
+ghost use Rattle.std.specs.List.{list_any};
 ghost use Rattle.cf_fake.specs.declared.live.LiveResource.{LiveResource};
 ghost use Rattle.cf_handler.specs.Lane.{updated, live_changed};
 ghost use Rattle.cf_fake.specs.Live.{live_as, lives, has_this_id, differ, with_values};
 ghost use Rattle.cf_fake.specs.Table.{is_taken};
 
-use crate::table::{are_same, is_same_by};
+use crate::table::are_same;
 use cf_handler::Settlement;
 use cf_schema::Schema;
-use cf_tree::{Dict, Request, Txt, Val};
+use cf_tree::{Dict, Request, Txt};
 use std::alloc::{AllocError, Global};
 
 /// A live resource: its id, its type, its properties and its attributes.
@@ -40,40 +38,8 @@ pub fn place_of(live: &[LiveResource], id: &Txt) -> Option<usize>
 pub fn is_taken(schema: &Schema, props: &Dict, live: &[LiveResource]) -> bool
     ensures { result ≡ is_taken schema.now props.now (lives live.now) }
 {
-    match schema.create_only.as_slice().first() {
-        Some(name) => match props.get(name.as_str()) {
-            Some(value) => is_taken_beside(schema, props, live, name, value),
-            None => is_any_same(schema, props, live),
-        },
-        None => is_any_same(schema, props, live),
-    }
-}
-
-fn is_any_same(schema: &Schema, props: &Dict, live: &[LiveResource]) -> bool
-    ensures { result ≡ is_taken schema.now props.now (lives live.now) }
-{
     for resource in live.iter() {
         if are_same(schema, &resource.props, props) {
-            return true;
-        }
-    }
-    false
-}
-
-/// The same, with the first create-only property: most of what is live has another value there, and is not looked at further.
-fn is_taken_beside(
-    schema: &Schema,
-    props: &Dict,
-    live: &[LiveResource],
-    name: &Txt,
-    value: &Val,
-) -> bool
-    requires first { slice_get schema.now.create_only 0 ≡ Some name.now }
-    requires value { value_at name.now props.now ≡ Some (datum_of value.now) }
-    ensures { result ≡ is_taken schema.now props.now (lives live.now) }
-{
-    for resource in live.iter() {
-        if is_same_by(schema, &resource.props, props, name, value) {
             return true;
         }
     }

@@ -1,11 +1,12 @@
 //! The handler in memory.
-ghost use Rattle.std.specs.Prelude.{◌≡◌, [], ◌∷◌, ◌++◌, IsTrue, IfOk, IfSome, OnErr, Some, None};
+ghost use Rattle.std.specs.Prelude.{◌≡◌, ℕ, [], ◌∷◌, ◌++◌, IsTrue, IfOk, IfSome, OnErr, Some, None};
 ghost use Rattle.std.specs.Coded.{Coded-set, coded_list};
 ghost use Rattle.cf_fake.specs.Codes.{live_code};
 ghost use Rattle.cf_handler.specs.Lane.{settlement_of, live_changed, live_of};
 ghost use Rattle.cf_handler.specs.Name.{is_lane_name};
 ghost use Rattle.cf_handler.specs.Move.{HasCause, IsShort, LaneMove};
 ghost use Rattle.cf_fake.specs.Live.{lives, differ};
+ghost use Rattle.cf_fake.specs.Noted.{are_noted};
 ghost use Rattle.cf_fake.specs.Sound.{lane_of, IsSoundTable};
 ghost use Rattle.cf_fake.specs.Table.{answer_to};
 ghost use Rattle.cf_fake.specs.Refusable.{may_break};
@@ -14,6 +15,7 @@ ghost use Rattle.cf_fake.specs.Call.{CallAnswers};
 
 use crate::answer::{answer_to, told_by};
 use crate::live::{LiveResource, apply};
+use crate::noted::Noted;
 use crate::plan::{Plan, break_at};
 use crate::planned::Break;
 use cf_handler::{Handler, Settled, Settlement, settlement_of};
@@ -40,9 +42,11 @@ pub struct MemoryHandler {
     faults: u64,
     settled: Vec<Settled>,
     live: Vec<LiveResource>,
+    noted: Noted,
     ghost named: { IsTrue (is_lane_name name) },
     ghost kept: { IsSoundTable name settled.items },
     ghost same: { lives live.items ≡ live_of (lane_of settled.items) } by { Coded-set (coded_list live_code) (lives live.items) (live_of (lane_of settled.items)) },
+    ghost marked: { IsTrue (are_noted noted schema.create_only (lives live.items)) },
 }
 
 /// The count of refusals and faults after an answer.
@@ -116,6 +120,7 @@ impl MemoryHandler {
             faults: 0,
             settled: Vec::new(alloc),
             live: Vec::new(alloc),
+            noted: Noted::new(alloc),
         })
     }
 
@@ -124,6 +129,18 @@ impl MemoryHandler {
         ensures { lives result.now ≡ live_of (lane_of self.now.settled.items) }
     {
         self.live.as_slice()
+    }
+
+    /// The live resources on which the answer to a request rests: none where it makes a new one that is surely none of them.
+    fn met(&self, request: &Request) -> &[LiveResource]
+        ensures { (token : ℕ) → answer_to self.now.schema self.now.name token (lives result.now) request.now
+            ≡ answer_to self.now.schema self.now.name token (live_of (lane_of self.now.settled.items)) request.now }
+    {
+        if self.noted.is_new(&self.schema, request) {
+            &[]
+        } else {
+            self.live.as_slice()
+        }
     }
 
     /// The answer of the table to a new token.
@@ -135,7 +152,7 @@ impl MemoryHandler {
             &self.schema,
             self.name.as_str(),
             token,
-            self.live.as_slice(),
+            self.met(request),
             request,
         )
     }
@@ -170,6 +187,7 @@ impl MemoryHandler {
     {
         let settlement = self.decide(token, request, planned)?;
         let answer = told_by(self.alloc, planned, &settlement)?;
+        self.noted.note_request(self.alloc, &self.schema, request)?;
         keep(
             self.alloc,
             &mut self.settled,

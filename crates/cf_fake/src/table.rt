@@ -1,6 +1,6 @@
 //! The table of answers.
 ghost use Rattle.std.specs.Prelude.{◌≡◌, ◌+◌, ◌^◌, ◌-◌, ◌≤◌, ◌++◌, [], ◌∷◌, length, nat_le, IsTrue, IfOk, Some, None, option_map};
-ghost use Rattle.std.specs.List.{list_all, list_any, slice_get};
+ghost use Rattle.std.specs.List.{list_all, list_any};
 ghost use Rattle.cf_tree.specs.Value.{datum_of, pairs_of};
 ghost use Rattle.cf_tree.specs.Keys.{value_at};
 ghost use Rattle.cf_tree.specs.Lists.{is_among};
@@ -104,26 +104,6 @@ pub fn are_same(schema: &Schema, old: &Dict, new: &Dict) -> bool
 {
     all_agree(old, new, schema.create_only.as_slice())
         && all_agree(old, new, schema.conditional.as_slice())
-}
-
-/// Whether a resource has this value of a property, or none.
-fn agrees_with(old: &Dict, name: &Txt, value: &Val) -> bool
-    ensures { result ≡ agree (value_at name.now old.now) (Some (datum_of value.now)) }
-{
-    match old.get(name.as_str()) {
-        Some(other) => other == value,
-        None => true,
-    }
-}
-
-/// Whether two resources are the same one, by the value that the second has of the first create-only property.
-#[tactic(auto, using(crate::proofs::First::same_by_first))]
-pub fn is_same_by(schema: &Schema, old: &Dict, new: &Dict, name: &Txt, value: &Val) -> bool
-    requires first { slice_get schema.now.create_only 0 ≡ Some name.now }
-    requires value { value_at name.now new.now ≡ Some (datum_of value.now) }
-    ensures { result ≡ are_same schema.now old.now new.now }
-{
-    agrees_with(old, name, value) && are_same(schema, old, new)
 }
 
 fn differs_at(old: &Dict, new: &Dict, name: &Txt) -> bool

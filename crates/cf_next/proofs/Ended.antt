@@ -1,8 +1,7 @@
 -- An operation is at its end just where it has nothing to offer that a lane could take, and what comes last is told by the offer.
-use Rattle.std.proofs.Common.{◌≡◌, ◌↔◌, ◌⊎◌, inl, inr, ℕ, ◌+◌, Bool, true, false, List, [], ◌∷◌, Option, Some, None, cond, filter, refl, ap, sym, ◌∙◌, subst}
+use Rattle.std.proofs.Common.{◌≡◌, ◌↔◌, ◌⊎◌, inl, inr, ℕ, ◌+◌, Bool, true, false, List, [], ◌∷◌, Option, Some, None, cond, refl, ap, sym, ◌∙◌, subst}
 use Rattle.std.specs.Prelude.{IsTrue}
 use Rattle.std.specs.List.{list_any}
-use Rattle.std.specs.Str.{bytes_eq}
 use Rattle.cf_schema.specs.declared.described.Schema.{Schema}
 use Rattle.cf_entry.proofs.Codec.{some_is}
 use Rattle.cf_entry.specs.declared.entry.Entry.{Entry}
@@ -11,12 +10,12 @@ use Rattle.cf_entry.specs.declared.status.Status.{Status}
 use Rattle.cf_entry.specs.declared.status.Status.TheVariants as status
 use Rattle.cf_entry.specs.declared.turn.Cause.{Cause}
 use Rattle.cf_entry.specs.declared.turn.Phase.{Phase}
-use Rattle.cf_effect.specs.declared.call.Call.{Call}
 use Rattle.cf_effect.specs.World.{StackState, World}
 use Rattle.cf_effect.specs.Status.{Stage, Forward, stage_of}
 use Rattle.cf_tree.specs.Lists.{here}
 use Rattle.cf_tree.specs.Lists.{In}
-use Rattle.cf_plan.specs.Follow.{AreFailed, EndsAs, FitsLane, IsAtEnd, MayStep, calls_in_flight, is_cleared, is_in_flight, is_lane_leased}
+use Rattle.cf_plan.specs.Follow.{AreFailed, EndsAs, FitsLane, IsAtEnd, MayStep, is_cleared}
+use Rattle.cf_plan.proofs.AtHome.{no_lane_out}
 use Rattle.cf_plan.proofs.Members.{any_in, false_from, in_any, in_none, not_both}
 use Rattle.cf_next.specs.declared.offer.Keeping.{Keeping}
 use Rattle.cf_next.specs.declared.offer.Offer.{Offer}
@@ -29,18 +28,6 @@ use Rattle.cf_next.specs.Joining.{HasNothing, IsLast, IsLastBy, end_status, fits
 use Rattle.cf_next.proofs.Calls.{by_fits, fits_by}
 use Rattle.cf_next.proofs.FailedOnce.{one_failed}
 use Rattle.cf_next.proofs.Followed.{none_is}
-
--- while nobody's lease is out, no lane is
-none_called : (cs : List Call) → filter (λ c. is_in_flight [] c.token) cs ≡ []
-none_called [] = refl
-none_called (c ∷ cs) = none_called cs
-
-no_lane_out : (x : World) (lane : List ℕ) → is_lane_leased [] x lane ≡ false
-no_lane_out x lane = by x.stacks
-  where
-    by : (ss : List (List ℕ × StackState)) → list_any (λ s. list_any (λ c. bytes_eq lane c.lane) (calls_in_flight [] s.1)) ss ≡ false
-    by [] = refl
-    by (s ∷ ss) = rw (none_called s.1.ledger) (by ss)
 
 -- a list of which each member is refuted is empty
 emptied : {A : Type 0} (xs : List A) → ((a : A) → In a xs → ⊥) → xs ≡ []

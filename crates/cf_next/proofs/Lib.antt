@@ -2,10 +2,12 @@ pub mod Advancing
 mod AllDue
 pub mod Asking
 mod Calls
+pub mod Creating
 mod Ended
 pub mod FactsTold
 mod FailedOnce
 pub mod FirstBegun
+mod FirstNamed
 mod Firsts
 mod Followed
 mod GoingForward

@@ -178,7 +178,7 @@ module _ (s : StackState) (f : Findings) (are : AreFindings s f) where
         (get_or l.rows.items j r, slice_get-get_or l.rows.items j r (omega (arith, less, within)))
 
     -- the place of the path of a row
-    its_place : (j : ℕ) (q : Placed) → slice_get l.rows.items j ≡ Some q → value_at q.path l.places ≡ Some j
+    pub its_place : (j : ℕ) (q : Placed) → slice_get l.rows.items j ≡ Some q → value_at q.path l.places ≡ Some j
     its_place j q h = rows.places q.path ∙ by (position (is_row_of q.path) l.rows.items) refl
       where
         by : (o : Option ℕ) → position (is_row_of q.path) l.rows.items ≡ o → o ≡ Some j

@@ -1,4 +1,5 @@
 pub mod Chosen
+pub mod Creation
 pub mod Due
 pub mod Facts
 pub mod First

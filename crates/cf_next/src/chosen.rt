@@ -9,6 +9,7 @@ ghost use Rattle.cf_next.specs.Forward.{IsOverviewIn};
 ghost use Rattle.cf_next.specs.Offer.{IsOfferOn};
 ghost use Rattle.cf_next.specs.Taking.{Chooses, IsLastOn};
 
+use crate::creation::next_create;
 use crate::first::first_begun;
 use crate::home::{Homes, leases_of, schemas_of};
 use crate::offer::Offer;
@@ -148,6 +149,9 @@ fn next_on(
 {
     if let Some(deletion) = next_deletion(alloc, out, world, stack)? {
         return Ok(deletion);
+    }
+    if let Some(create) = next_create(alloc, out, world, stack)? {
+        return Ok(create);
     }
     let overview = overview_in(alloc, schemas, stack)?;
     let next = next_over(alloc, schemas, name, world, stack, out, &overview);

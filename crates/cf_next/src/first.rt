@@ -104,7 +104,7 @@ fn physical_id_of<'a>(start: &Start<'a>) -> &'a str
 }
 
 /// Whether a lane at home fits a new call.
-fn fits_one(homes: &[LaneHome], start: &Start) -> bool
+pub(crate) fn fits_one(homes: &[LaneHome], start: &Start) -> bool
     ensures { result ≡ fits_one homes.now start.now }
 {
     homes.iter().any(|home| fits(start, home.lane()))

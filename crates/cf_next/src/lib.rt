@@ -2,6 +2,7 @@
 #![tactic(auto)]
 
 mod chosen;
+mod creation;
 mod deletions;
 mod dues;
 mod facts;

@@ -1,6 +1,11 @@
 -- The lane that takes a request, as code tells it: with its type.
-use Rattle.std.proofs.Common.{◌≡◌, ℕ, List, Option, Some, None, option_map, ap}
+use Rattle.std.proofs.Common.{◌≡◌, ℕ, false, List, [], ◌∷◌, Option, Some, None, filter, option_map, refl, ap, sym, ◌∙◌}
+use Rattle.std.specs.List.{list_any}
 use Rattle.std.specs.Option.{option_copied}
+use Rattle.std.specs.Str.{bytes_eq}
+use Rattle.cf_effect.specs.declared.call.Call.{Call}
+use Rattle.cf_effect.specs.World.{StackState, World}
+use Rattle.cf_plan.specs.Follow.{calls_in_flight, is_in_flight, is_lane_leased}
 use denote.Ref.{Bor}
 
 -- where a lane is found, it is told by its name
@@ -8,3 +13,18 @@ pub lane_named : (o : Option (Bor (List ℕ × List ℕ))) (q : Option (List ℕ
     → option_map (λ (l : Bor (List ℕ × List ℕ)). l.now.0) o ≡ option_map (λ (m : List ℕ × List ℕ). m.0) q
 lane_named None q e = ap (option_map (λ (m : List ℕ × List ℕ). m.0)) e
 lane_named (Some l) q e = ap (option_map (λ (m : List ℕ × List ℕ). m.0)) e
+
+-- while nobody's lease is out, no lane is
+none_called : (cs : List Call) → filter (λ c. is_in_flight [] c.token) cs ≡ []
+none_called [] = refl
+none_called (c ∷ cs) = none_called cs
+
+pub no_lane_out : (x : World) (lane : List ℕ) → is_lane_leased [] x lane ≡ false
+no_lane_out x lane = by x.stacks
+  where
+    by : (ss : List (List ℕ × StackState)) → list_any (λ s. list_any (λ c. bytes_eq lane c.lane) (calls_in_flight [] s.1)) ss ≡ false
+    by [] = refl
+    by (s ∷ ss) = rw (none_called s.1.ledger) (by ss)
+
+pub none_leased : (x : World) (lane : List ℕ) (out : List ℕ) → out ≡ [] → false ≡ is_lane_leased out x lane
+none_leased x lane out e = sym (ap (λ ts. is_lane_leased ts x lane) e ∙ no_lane_out x lane)

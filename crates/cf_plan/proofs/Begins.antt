@@ -16,12 +16,12 @@ use Rattle.cf_schema.specs.declared.described.Schema.{Schema}
 use Rattle.cf_effect.specs.World.{StackState}
 use Rattle.cf_plan.specs.declared.forward.Wants.{Wants}
 use Rattle.cf_plan.specs.Between.{needs_at}
-use Rattle.cf_plan.specs.Forward.{IsDone, IsReady, plan_now}
+use Rattle.cf_plan.specs.Forward.{IsDone, IsReady, finding_by, plan_now}
 use Rattle.cf_tree.specs.Lists.{there}
 use Rattle.cf_tree.specs.Lists.{here}
 use Rattle.cf_tree.specs.Lists.{In}
 use Rattle.cf_plan.specs.Follow.{IntendsForward, is_free}
-use Rattle.cf_plan.specs.Done.{AreDone, HasTerms, are_met, finding_by, planned_needs}
+use Rattle.cf_plan.specs.Done.{AreDone, HasTerms, are_met, planned_needs}
 use Rattle.cf_plan.specs.Starts.{AreRequests, IsWanted, may_start, starts_by, wants_by, with_start}
 use Rattle.cf_plan.proofs.Doing.{all_met, met_all}
 use Rattle.cf_plan.proofs.Listed.{bytes_same, in_cons, in_none, map_more, or_cases, or_left, or_right, same_bytes}

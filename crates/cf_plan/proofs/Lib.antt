@@ -1,8 +1,8 @@
 pub mod OneShape
 pub mod PlanTerms
 pub mod StatesDone
-mod StatesRead
-mod StatesOpen
+pub mod StatesRead
+pub mod StatesOpen
 mod NoneNested
 pub mod CreatedSeen
 pub mod CreatedStays

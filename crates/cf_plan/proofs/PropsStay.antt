@@ -1,6 +1,6 @@
 -- Properties over what is seen: seeing more keeps those that were known, they stand in the order of their names, and those of which a
 -- change set has no detail are the same.
-use Rattle.std.proofs.Common.{◌≡◌, ◌∙◌, ℕ, List, ◌∷◌, ◌++◌, Bool, true, false, Option, Some, None, find, map, refl, sym, ap, subst, inl, inr, ◌+◌, ◌⊎◌, not, ◌||◌, true≢false, []}
+use Rattle.std.proofs.Common.{◌≡◌, ◌∙◌, ℕ, List, ◌∷◌, ◌++◌, Bool, true, false, Option, Some, None, find, map, refl, sym, ap, subst, inl, inr, ◌+◌, ◌⊎◌, not, ◌||◌, true≢false, [], Ok, Err}
 use Rattle.cf_desired.specs.Work.{Body, Inside, Member, Shape, Work, barred, halted, nested, no_work, resource, shut, opened}
 use Rattle.cf_tree.specs.declared.row.Detail.{Detail}
 use Rattle.cf_schema.specs.declared.changed.Difference.{Difference}
@@ -21,7 +21,7 @@ use Rattle.cf_schema.specs.Change.{any_differs, difference_of, differs_at, value
 use Rattle.cf_tree.specs.Keys.{ascends, ascends_from, bytes_lt, value_at}
 use Rattle.cf_desired.specs.Plan.{at_path, plan_by}
 use Rattle.std.specs.Str.{bytes_eq}
-use Rattle.cf_change.specs.Changes.{differs, is_never, is_property, names_on_either as names_held, property_detail, property_details, recreation_by, recreation_of}
+use Rattle.cf_change.specs.Changes.{evaluation_of, is_never, is_property, names_on_either as names_held, property_detail, property_details, recreation_by, recreation_of, static_if}
 use Rattle.std.specs.Cmp.{first_so, second_so}
 use Rattle.cf_tree.specs.Lists.{is_among}
 use Rattle.cf_desired.specs.Whole.{known_of, known_props_from}
@@ -50,9 +50,10 @@ use Rattle.cf_tree.specs.declared.row.Evaluation.{Evaluation}
 use Rattle.cf_eval.specs.Outcome.{got, later, bad}
 use Rattle.cf_eval.specs.Scope.{Scope}
 use Rattle.cf_eval.specs.Texts.{Found}
-use Rattle.cf_eval.proofs.Knowing.{Stands, plain_value_stands as value_stands}
+use Rattle.cf_eval.proofs.Knowing.{Stands, value_stands}
 use Rattle.cf_desired.specs.Given.{Given, given_in, settings_for}
-use Rattle.cf_desired.specs.Stack.{Scoping, Sights, Stack, Verdicts, props_in, scoping, value_in, with_prop}
+use Rattle.cf_desired.specs.Stack.{Scoping, Sights, Stack, Verdicts, evaluated_in, flaw_at, scoping}
+use Rattle.cf_eval.specs.Value.{PropsFound, props_of, value_of, with_prop}
 use Rattle.cf_desired.proofs.Flawless.{HasNone, none_in}
 use Rattle.cf_desired.proofs.Keeping.{GivenKeeps, KeepsSights, first_keep, given_keeps, given_self, inside_keeps, names_keep, over, put_keeps, scope_knows}
 use Rattle.cf_desired.proofs.OrderNeeds.{among_order, among_first, among_second}
@@ -102,15 +103,15 @@ to_flaw : (r : Evaluated) (f : Flaw) → PropsBecome r (flawed f)
 to_flaw (evaluated xs) f = tt
 to_flaw (flawed g) f = tt
 
-one_becomes : (path name : List ℕ) (x y : Found) (r u : Evaluated) → Stands false x y → PropsBecome r u → PropsBecome (with_prop path name x r) (with_prop path name y u)
-one_becomes path name (got None) y (evaluated xs) (evaluated ys) g h = subst (λ z. PropsBecome (evaluated xs) (with_prop path name z (evaluated ys))) (sym g) h
-one_becomes path name (got (Some d)) y (evaluated xs) (evaluated ys) g h = subst (λ z. PropsBecome (evaluated ((name, Some d) ∷ xs)) (with_prop path name z (evaluated ys))) (sym g) (stays_known h)
-one_becomes path name (got o) y (evaluated xs) (flawed f) g h =
-    subst (λ z. PropsBecome (with_prop path name (got o) (evaluated xs)) (with_prop path name z (flawed f))) (sym g) (to_flaw (with_prop path name (got o) (evaluated xs)) f)
-one_becomes path name later (got None) (evaluated xs) (evaluated ys) g h = left_out h
-one_becomes path name later (got (Some d)) (evaluated xs) (evaluated ys) g h = is_told h
-one_becomes path name later later (evaluated xs) (evaluated ys) g h = is_told h
-one_becomes path name later (bad w) r u g h = to_flaw (with_prop path name later r) _
+one_becomes : (path name : List ℕ) (x y : Found) (r u : PropsFound) → Stands false x y → PropsBecome (evaluated_in path r) (evaluated_in path u) → PropsBecome (evaluated_in path (with_prop name x r)) (evaluated_in path (with_prop name y u))
+one_becomes path name (got None) y (Ok xs) (Ok ys) g h = subst (λ z. PropsBecome (evaluated xs) (evaluated_in path (with_prop name z (Ok ys)))) (sym g) h
+one_becomes path name (got (Some d)) y (Ok xs) (Ok ys) g h = subst (λ z. PropsBecome (evaluated ((name, Some d) ∷ xs)) (evaluated_in path (with_prop name z (Ok ys)))) (sym g) (stays_known h)
+one_becomes path name (got o) y (Ok xs) (Err w) g h =
+    subst (λ z. PropsBecome (evaluated_in path (with_prop name (got o) (Ok xs))) (evaluated_in path (with_prop name z (Err w)))) (sym g) (to_flaw (evaluated_in path (with_prop name (got o) (Ok xs))) (flaw_at path w))
+one_becomes path name later (got None) (Ok xs) (Ok ys) g h = left_out h
+one_becomes path name later (got (Some d)) (Ok xs) (Ok ys) g h = is_told h
+one_becomes path name later later (Ok xs) (Ok ys) g h = is_told h
+one_becomes path name later (bad w) r u g h = to_flaw (evaluated_in path (with_prop name later r)) _
 one_becomes path name x y r u g h = tt
 
 unless_becomes : (f : Option Flaw) (v w : Evaluated) → PropsBecome v w → PropsBecome (unless_flaw f v) (unless_flaw f w)
@@ -118,12 +119,12 @@ unless_becomes None v w h = h
 unless_becomes (Some f) v w h = tt
 
 module _ (s t : Scope) (k : KnowsMore s t) (path : List ℕ) where
-  props_become : (ps : List (List ℕ × Form)) → PropsBecome (props_in path s ps) (props_in path t ps)
+  props_become : (ps : List (List ℕ × Form)) → PropsBecome (evaluated_in path (props_of s ps)) (evaluated_in path (props_of t ps))
   props_become [] = no_props
-  props_become (p ∷ ps) = one_becomes path p.0 (value_in s p.1) (value_in t p.1) (props_in path s ps) (props_in path t ps) (value_stands s t k p.1) (props_become ps)
+  props_become (p ∷ ps) = one_becomes path p.0 (value_of s p.1) (value_of t p.1) (props_of s ps) (props_of t ps) (value_stands s t k p.1) (props_become ps)
 
   member_becomes : (m : Member) → PropsBecome (member_props path s m) (member_props path t m)
-  member_becomes m = unless_becomes m.unnamed (props_in path s m.props) (props_in path t m.props) (props_become m.props)
+  member_becomes m = unless_becomes m.unnamed (evaluated_in path (props_of s m.props)) (evaluated_in path (props_of t m.props)) (props_become m.props)
 
 -- the properties of one resource, in a scope and in one that knows more
 pub record IsValued (x y : Valued) : Type 0 where
@@ -303,26 +304,26 @@ abbrev pub Ordered : Evaluated → Type 0
 Ordered (flawed f) = ⊤
 Ordered (evaluated xs) = ascends xs ≡ true
 
-with_from : (path k name : List ℕ) (x : Found) (v : Evaluated) → bytes_lt k name ≡ true → From name v → From k (with_prop path name x v)
-with_from path k name (got None) (evaluated xs) h g = past k name xs h g
-with_from path k name (got (Some d)) (evaluated xs) h g = and_from (bytes_lt k name) (ascends_from name xs) h g
-with_from path k name later (evaluated xs) h g = and_from (bytes_lt k name) (ascends_from name xs) h g
+with_from : (path k name : List ℕ) (x : Found) (v : PropsFound) → bytes_lt k name ≡ true → From name (evaluated_in path v) → From k (evaluated_in path (with_prop name x v))
+with_from path k name (got None) (Ok xs) h g = past k name xs h g
+with_from path k name (got (Some d)) (Ok xs) h g = and_from (bytes_lt k name) (ascends_from name xs) h g
+with_from path k name later (Ok xs) h g = and_from (bytes_lt k name) (ascends_from name xs) h g
 with_from path k name x v h g = tt
 
-props_from : (path k : List ℕ) (s : Scope) (ps : List (List ℕ × Form)) → ascends_from k ps ≡ true → From k (props_in path s ps)
+props_from : (path k : List ℕ) (s : Scope) (ps : List (List ℕ × Form)) → ascends_from k ps ≡ true → From k (evaluated_in path (props_of s ps))
 props_from path k s [] h = refl
 props_from path k s (p ∷ ps) h =
-    with_from path k p.0 (value_in s p.1) (props_in path s ps) (first_so (bytes_lt k p.0) (ascends_from p.0 ps) h) (props_from path p.0 s ps (second_so (bytes_lt k p.0) (ascends_from p.0 ps) h))
+    with_from path k p.0 (value_of s p.1) (props_of s ps) (first_so (bytes_lt k p.0) (ascends_from p.0 ps) h) (props_from path p.0 s ps (second_so (bytes_lt k p.0) (ascends_from p.0 ps) h))
 
-with_first : (path name : List ℕ) (x : Found) (v : Evaluated) → From name v → Ordered (with_prop path name x v)
-with_first path name (got None) (evaluated xs) g = tail_ascends name xs g
-with_first path name (got (Some d)) (evaluated xs) g = g
-with_first path name later (evaluated xs) g = g
+with_first : (path name : List ℕ) (x : Found) (v : PropsFound) → From name (evaluated_in path v) → Ordered (evaluated_in path (with_prop name x v))
+with_first path name (got None) (Ok xs) g = tail_ascends name xs g
+with_first path name (got (Some d)) (Ok xs) g = g
+with_first path name later (Ok xs) g = g
 with_first path name x v g = tt
 
-props_ordered : (path : List ℕ) (s : Scope) (ps : List (List ℕ × Form)) → ascends ps ≡ true → Ordered (props_in path s ps)
+props_ordered : (path : List ℕ) (s : Scope) (ps : List (List ℕ × Form)) → ascends ps ≡ true → Ordered (evaluated_in path (props_of s ps))
 props_ordered path s [] h = refl
-props_ordered path s (p ∷ ps) h = with_first path p.0 (value_in s p.1) (props_in path s ps) (props_from path p.0 s ps h)
+props_ordered path s (p ∷ ps) h = with_first path p.0 (value_of s p.1) (props_of s ps) (props_from path p.0 s ps h)
 
 unless_ordered : (f : Option Flaw) (v : Evaluated) → Ordered v → Ordered (unless_flaw f v)
 unless_ordered None v h = h
@@ -330,7 +331,7 @@ unless_ordered (Some f) v h = tt
 
 pub valued_ordered : (x y : Valued) → IsValued x y → ascends y.0.props ≡ true → Ordered y.1
 valued_ordered x y v h =
-    subst (λ (u : Valued). Ordered u.1) (sym v.now) (unless_ordered v.member.unnamed (props_in v.path v.further v.member.props)
+    subst (λ (u : Valued). Ordered u.1) (sym v.now) (unless_ordered v.member.unnamed (evaluated_in v.path (props_of v.further v.member.props))
     (props_ordered v.path v.further v.member.props (ap (λ (u : Valued). ascends u.0.props) (sym v.now) ∙ h)))
 
 -- what is known of it all
@@ -351,14 +352,14 @@ absent n (p ∷ ps) h = either (bytes_eq n p.0) h (absent n ps) where
 abbrev pub AreSame : Option tree.Data → Option (Option tree.Data) → Type 0
 AreSame o q = ((o ≡ None) × (q ≡ None)) ⊎ ((d : tree.Data) × (o ≡ Some d) × (q ≡ Some (Some d)))
 
-are_same : (o : Option tree.Data) (q : Option (Option tree.Data)) → differs o q ≡ None → AreSame o q
+are_same : (o : Option tree.Data) (q : Option (Option tree.Data)) → evaluation_of o q ≡ None → AreSame o q
 are_same None None h = inl (refl, refl)
 are_same (Some a) None h = let no : ⊥ = cc in absurd no
 are_same None (Some None) h = let no : ⊥ = cc in absurd no
 are_same (Some a) (Some None) h = let no : ⊥ = cc in absurd no
 are_same None (Some (Some b)) h = let no : ⊥ = cc in absurd no
 are_same (Some a) (Some (Some b)) h = either (same_data a b) refl h where
-  either : (t : Bool) → same_data a b ≡ t → cond t None (Some evaluation.Static) ≡ None → AreSame (Some a) (Some (Some b))
+  either : (t : Bool) → same_data a b ≡ t → static_if (not t) ≡ None → AreSame (Some a) (Some (Some b))
   either true e g = inr (a, refl, ap (λ d. Some (Some d)) (sym ((same_decides a b).0 e)))
   either false e g = let no : ⊥ = cc in absurd no
 
@@ -371,24 +372,24 @@ module _ (g : Option Schema) (old : List (List ℕ × tree.Data)) (xs : Props) w
     untold None h = refl
     untold (Some e) h = absurd (true≢false (sym (told e) ∙ first_not _ false h))
 
-    not_named : is_among n (names_held old xs) ≡ false → differs (value_at n old) (value_at n xs) ≡ None
+    not_named : is_among n (names_held old xs) ≡ false → evaluation_of (value_at n old) (value_at n xs) ≡ None
     not_named h =
         let all = none_false (is_among n (map (λ p. p.0) old ++ map (λ p. p.0) xs)) (λ e. true≢false (sym (among_order n (map (λ p. p.0) old ++ map (λ p. p.0) xs) e) ∙ h)) in
         let first = absent n old (none_false (is_among n (map (λ p. p.0) old)) (λ e. true≢false (sym (among_first n (map (λ p. p.0) old) (map (λ p. p.0) xs) e) ∙ all))) in
         let second = absent n xs (none_false (is_among n (map (λ p. p.0) xs)) (λ e. true≢false (sym (among_second n (map (λ p. p.0) old) (map (λ p. p.0) xs) e) ∙ all))) in
-        ap (λ o. differs o (value_at n xs)) first ∙ ap (λ o. differs None o) second
+        ap (λ o. evaluation_of o (value_at n xs)) first ∙ ap (λ o. evaluation_of None o) second
 
-    same_at : differs (value_at n old) (value_at n xs) ≡ None
+    same_at : evaluation_of (value_at n old) (value_at n xs) ≡ None
     same_at = either (is_among n (names_held old xs)) refl where
-      either : (b : Bool) → is_among n (names_held old xs) ≡ b → differs (value_at n old) (value_at n xs) ≡ None
+      either : (b : Bool) → is_among n (names_held old xs) ≡ b → evaluation_of (value_at n old) (value_at n xs) ≡ None
       either false e = not_named e
       either true e =
           let p = some_of (bytes_eq n) (names_held old xs) e in
           let of_names = none_of (λ m. list_any test (property_detail g old xs m)) (names_held old xs) p.one (sym (any_flat test (property_detail g old xs) (names_held old xs)) ∙ none) p.of_list in
-          untold (differs (value_at n old) (value_at n xs)) (subst (λ m. list_any test (property_detail g old xs m) ≡ false) (sym ((bytes_eq-Decides n p.one).0 p.passes)) of_names)
+          untold (evaluation_of (value_at n old) (value_at n xs)) (subst (λ m. list_any test (property_detail g old xs m) ≡ false) (sym ((bytes_eq-Decides n p.one).0 p.passes)) of_names)
 
 -- then it is what it was
-value_is : (o : Option tree.Data) (q : Option (Option tree.Data)) (p : Option tree.Data) → differs o q ≡ None → IsKnownAs q p → p ≡ o
+value_is : (o : Option tree.Data) (q : Option (Option tree.Data)) (p : Option tree.Data) → evaluation_of o q ≡ None → IsKnownAs q p → p ≡ o
 value_is o q p h k = elim (are_same o q h) [
   | inl s ↦ k.gone s.1 ∙ sym s.0
   | inr s ↦ k.same s.0 s.2 ∙ sym s.1
@@ -482,7 +483,7 @@ pub no_detail : (g : Option Schema) (old : List (List ℕ × tree.Data)) (xs : P
 no_detail g old xs none =
     any_flat (λ d. not (is_never d.recreation)) (property_detail g old xs) (names_held old xs)
     ∙ none_any (λ n. list_any (λ d. not (is_never d.recreation)) (property_detail g old xs n)) (names_held old xs)
-    (λ n i t. by_detail n (differs (value_at n old) (value_at n xs)) (none_of (λ m. list_any is_property (property_detail g old xs m)) (names_held old xs) n (sym (any_flat is_property (property_detail g old xs) (names_held old xs)) ∙ none) i) t)
+    (λ n i t. by_detail n (evaluation_of (value_at n old) (value_at n xs)) (none_of (λ m. list_any is_property (property_detail g old xs m)) (names_held old xs) n (sym (any_flat is_property (property_detail g old xs) (names_held old xs)) ∙ none) i) t)
   where
     by_detail : (n : List ℕ) (o : Option Evaluation)
         → list_any is_property (option_map_or (λ e. record { attribute = attribute.Properties; name = n; recreation = recreation_of g n; evaluation = e } ∷ []) o []) ≡ false

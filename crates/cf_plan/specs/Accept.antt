@@ -17,7 +17,7 @@ use Rattle.cf_effect.specs.World.{StackState, World}
 use Rattle.cf_effect.specs.Words.{is_pinned}
 use Rattle.cf_tree.specs.Named.{all_differ}
 use Rattle.cf_tree.specs.Lists.{is_among}
-use Rattle.cf_change.specs.Changes.{HeldAt, Changes, changes_of, found_of, is_empty}
+use Rattle.cf_change.specs.Changes.{HeldAt, Changes, changes_of, found_of, is_unchanged}
 use Rattle.cf_desired.specs.Seeing.{Seen, by_names}
 use Rattle.cf_desired.specs.Plan.{plan_of}
 
@@ -90,10 +90,6 @@ creates_from status.DeleteComplete = true
 creates_from status.ReviewInProgress = true
 creates_from _ = false
 
--- something changes: a row, or an output
-abbrev pub Changing : Changes → Type 0
-Changing c = (is_empty c.rows ≡ false) ⊎ (c.outputs_differ ≡ true)
-
 -- The source is accepted where these are the types that there are.
 pub record IsAccepted (schemas : List Schema) (kinds : List (List ℕ)) (name : List ℕ) (x : World) (s : StackState) (source : Source) : Type
     0 where
@@ -104,7 +100,7 @@ pub record IsAccepted (schemas : List Schema) (kinds : List (List ℕ)) (name : 
   pub free : IsTrue (are_free name x (map (λ e. e.0) (plan_of source (seen_before schemas s source)).exports))
   pub not_in_use : list_any (is_taken_away name x (map (λ e. e.0) (plan_of source (seen_before schemas s source)).exports)) x.exports
       ≡ false
-  pub changing : IsTrue (creates_from s.status) ⊎ Changing (changes_on schemas name x s source)
+  pub changing : IsTrue (creates_from s.status) ⊎ (is_unchanged (changes_on schemas name x s source) ≡ false)
 
 -- the types that have a schema
 abbrev pub schema_kinds : List Schema → List (List ℕ)
@@ -114,6 +110,6 @@ schema_kinds schemas = map (λ g. g.kind) schemas
 pub record IsReviewed (schemas : List Schema) (name : List ℕ) (x : World) (s : StackState) (source : Source) (rows : List Row)
     (outputs : Bool) : Type 0 where
   pub accepted : IsAccepted schemas (schema_kinds schemas) name x s source
-  pub changing : Changing (changes_on schemas name x s source)
+  pub changing : is_unchanged (changes_on schemas name x s source) ≡ false
   pub rows_are : rows ≡ (changes_on schemas name x s source).rows
   pub outputs_are : outputs ≡ (changes_on schemas name x s source).outputs_differ

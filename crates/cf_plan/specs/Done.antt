@@ -1,7 +1,6 @@
 -- Which paths are done, as it is found out: path after path joins those that are done already (this project's own).
 use Rattle.std.specs.Prelude.{◌≡◌, ◌↔◌, ◌⊎◌, ℕ, Bool, ◌&&◌, false, List, [], ◌∷◌, ◌++◌, Option, Some, IsTrue, filter, map, not}
 use Rattle.std.specs.List.{list_all}
-use Rattle.std.specs.Option.{option_map_or}
 use Rattle.cf_tree.specs.Lists.{is_among}
 use Rattle.cf_desired.specs.declared.wanted.Plan.{Plan}
 use Rattle.cf_desired.specs.declared.wanted.Wanted.{Wanted}
@@ -15,7 +14,7 @@ use Rattle.cf_effect.specs.Calls.{own_calls, succeeded}
 use Rattle.cf_plan.specs.declared.found.Found as found
 use Rattle.cf_plan.specs.declared.found.Found.TheVariants.{Bad as bad, Later as not_yet, Known as known}
 use Rattle.cf_plan.specs.Between.{needs_at}
-use Rattle.cf_plan.specs.Forward.{IsDone, Finding, Bad, Later, Known, finding, wanted_paths}
+use Rattle.cf_plan.specs.Forward.{IsDone, Finding, Bad, Later, Known, finding_by, finding_over, wanted_paths}
 use Rattle.cf_tree.specs.Lists.{In}
 
 -- what properties come to, as code has it
@@ -24,13 +23,7 @@ finding_of (bad flaw) = Bad flaw.now
 finding_of not_yet = Later
 finding_of (known kind props) = Known kind.now props
 
--- by a plan: what the properties of a path come to, and what it needs
-abbrev pub finding_over : Option Wanted → Finding
-finding_over o = option_map_or (λ w. finding w.kind w.props) o Later
-
-abbrev pub finding_by : List ℕ → Plan → Finding
-finding_by path p = option_map_or (λ w. finding w.kind w.props) (wanted_at path p) Later
-
+-- by a plan, what a path needs
 abbrev pub planned_needs : List ℕ → Plan → List (List ℕ)
 planned_needs path p = (terms_of (wanted_at path p)).needs
 

@@ -38,6 +38,7 @@ use Rattle.cf_desired.specs.declared.flaw.Flaw.{Flaw}
 use Rattle.cf_desired.specs.declared.wanted.Evaluated.{Evaluated}
 use Rattle.cf_desired.specs.declared.wanted.Inner.{Inner}
 use Rattle.cf_desired.specs.declared.wanted.Plan.{Plan}
+use Rattle.cf_desired.specs.declared.wanted.Wanted.{Wanted}
 use Rattle.cf_desired.specs.Seeing.{Seen}
 use Rattle.cf_desired.specs.Plan.{plan_by, no_plan}
 use Rattle.cf_desired.specs.Shape.{shape_of}
@@ -76,9 +77,16 @@ abbrev pub finding : List ℕ → Evaluated → Finding
 finding k (flawed f) = Bad f
 finding k (evaluated ps) = known_or_later k (known_props_from ps)
 
+-- by a plan, what the properties of a path come to
+abbrev pub finding_over : Option Wanted → Finding
+finding_over o = option_map_or (λ w. finding w.kind w.props) o Later
+
+abbrev pub finding_by : List ℕ → Plan → Finding
+finding_by path p = finding_over (wanted_at path p)
+
 -- the properties of a path, evaluated over the ids and attributes of now
 abbrev pub evaluated_at : List ℕ → StackState → Finding
-evaluated_at path s = option_map_or (λ w. finding w.kind w.props) (wanted_at path (plan_now s)) Later
+evaluated_at path s = finding_by path (plan_now s)
 
 -- this operation's update of the path succeeded; was answered, be it refused
 abbrev pub was_updated_at : List ℕ → StackState → Bool
@@ -164,7 +172,7 @@ IsBadNested s p fault =
 abbrev pub IsBadPath : StackState → List ℕ → Flaw → Type 0
 IsBadPath s p fault = IsBadAt s p fault ⊎ IsBadNested s p fault
 
--- where all paths are done, the first flaw is that of an output
+-- all paths are done, and this is the first flaw: of an output, where no path is bad
 abbrev pub IsBadOutput : StackState → Flaw → Type 0
 IsBadOutput s fault = AllDone s × (first_in (plan_now s).flaws ≡ Some fault)
 

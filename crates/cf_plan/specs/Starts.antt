@@ -13,8 +13,8 @@ use Rattle.cf_effect.specs.Words.{current_at}
 use Rattle.cf_tree.specs.Keys.{put, value_at}
 use Rattle.cf_tree.specs.Lists.{is_among}
 use Rattle.cf_desired.specs.declared.wanted.Plan.{Plan}
-use Rattle.cf_plan.specs.Done.{are_met, finding_by}
-use Rattle.cf_plan.specs.Forward.{Finding, Known, IsDone, IsReady, difference_to, is_conditional, was_answered_at}
+use Rattle.cf_plan.specs.Done.{are_met}
+use Rattle.cf_plan.specs.Forward.{Finding, Known, IsDone, finding_by, IsReady, difference_to, is_conditional, was_answered_at}
 use Rattle.cf_tree.specs.Lists.{In}
 use Rattle.cf_plan.specs.Follow.{IntendsForward, is_free, was_not_updatable}
 use Rattle.cf_plan.specs.declared.forward.Wants.{Wants}

@@ -3,9 +3,8 @@ ghost use Rattle.std.specs.Prelude.{◌≡◌, IfOk};
 ghost use Rattle.std.specs.List.{list_any};
 ghost use Rattle.std.specs.Option.{option_copied};
 ghost use Rattle.std.specs.Str.{bytes_eq};
-ghost use Rattle.cf_plan.specs.Forward.{plan_now};
+ghost use Rattle.cf_plan.specs.Forward.{finding_over, plan_now};
 ghost use Rattle.cf_plan.specs.Follow.{is_free};
-ghost use Rattle.cf_plan.specs.Done.{finding_over};
 ghost use Rattle.cf_effect.specs.Words.{current_at};
 ghost use Rattle.cf_plan.specs.Starts.{AreIntended, create_over, update_over, wants_by, wants_new, wants_update};
 

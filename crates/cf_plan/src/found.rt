@@ -6,8 +6,8 @@ ghost use Rattle.cf_tree.specs.Datum.{members_of};
 ghost use Rattle.cf_tree.specs.Same.{same_members};
 ghost use Rattle.cf_desired.specs.Whole.{wanted_at};
 ghost use Rattle.cf_effect.specs.Words.{current_at};
-ghost use Rattle.cf_plan.specs.Forward.{Known, finding};
-ghost use Rattle.cf_plan.specs.Done.{IsHeldRight, IsFoundRight, finding_by, finding_of, finding_over};
+ghost use Rattle.cf_plan.specs.Forward.{Known, finding, finding_by, finding_over};
+ghost use Rattle.cf_plan.specs.Done.{IsHeldRight, IsFoundRight, finding_of};
 
 use crate::index::{HeldIndex, PlanIndex};
 use cf_desired::{Evaluated, Flaw, Plan, Wanted};

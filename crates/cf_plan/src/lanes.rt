@@ -33,11 +33,22 @@ fn is_out_on_one(out: &[u64], lane: &Txt, stacks: &[(Txt, StackState)]) -> bool
     stacks.iter().any(|stack| is_out_on(out, lane, &stack.1))
 }
 
+/// Whether a call is out on a lane, of whichever stack: the calls of all stacks are gone over.
+fn is_leased(out: &[u64], world: &World, lane: &Txt) -> bool
+    ensures { result ≡ is_lane_leased out.now world.now.world lane.now }
+{
+    is_out_on_one(out, lane, world.stacks().as_slice())
+}
+
 /// Whether a call is out on a lane, of whichever stack.
 pub fn is_lane_leased(out: &[u64], world: &World, lane: &Txt) -> bool
     ensures { result ≡ is_lane_leased out.now world.now.world lane.now }
 {
-    is_out_on_one(out, lane, world.stacks().as_slice())
+    if out.is_empty() {
+        false
+    } else {
+        is_leased(out, world, lane)
+    }
 }
 
 /// Whether a physical id begins with the name of a lane and a colon.

@@ -45,4 +45,4 @@ pub use repeats::{
 };
 pub use start::{Ask, Start, Starts};
 pub use starts::starts_of;
-pub use stepping::{plan_before, plan_now};
+pub use stepping::{has_nested, plan_before, plan_now};

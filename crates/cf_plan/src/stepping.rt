@@ -112,8 +112,8 @@ pub(crate) fn is_all_done(stack: &StackState, terms: &PlanIndex, done: &NameInde
     are_all_done(terms, done)
 }
 
-/// Whether a stack is nested in the one that the operation's source describes.
-pub(crate) fn has_nested(stack: &StackState) -> bool
+/// Whether a stack is nested in the one that the operation's source describes; it takes a few instructions for each of its resources.
+pub fn has_nested(stack: &StackState) -> bool
     ensures { result ≡ false → (plan_now stack.now.stack).nested ≡ [] }
 {
     match stack.outset() {

@@ -14,7 +14,7 @@ use Rattle.cf_desired.specs.Plan.{plan_of}
 use Rattle.cf_desired.specs.Seeing.{Seen}
 use Rattle.cf_desired.specs.declared.wanted.Plan.{Plan}
 use Rattle.cf_desired.specs.declared.wanted.Wanted.{Wanted}
-use Rattle.cf_change.specs.Changes.{Changes, RowsFound, changes_by, found_of, is_empty, least_of}
+use Rattle.cf_change.specs.Changes.{Changes, RowsFound, changes_by, found_of, is_empty, is_unchanged, least_of}
 use Rattle.cf_change.proofs.Shown.{held_shows_more}
 use Rattle.cf_entry.specs.declared.entry.Begun.TheVariants as begin
 use Rattle.cf_entry.specs.declared.status.Status.{Status}
@@ -25,7 +25,7 @@ use Rattle.cf_effect.specs.Status.{is_in_progress}
 use Rattle.cf_effect.specs.Words.{is_pinned}
 use Rattle.cf_effect.specs.World.{StackState, World, known_stack}
 use Rattle.cf_plan.proofs.Least.{least_none, none_least}
-use Rattle.cf_plan.specs.Accept.{Changing, ImportsWhatItUses, IsAccepted, IsReviewed, are_free, changes_on, creates_from, exports_by, held_by, is_exported_elsewhere, is_taken_away, seen_before, with_imports}
+use Rattle.cf_plan.specs.Accept.{ImportsWhatItUses, IsAccepted, IsReviewed, are_free, changes_on, creates_from, exports_by, held_by, is_exported_elsewhere, is_taken_away, seen_before, with_imports}
 use Rattle.cf_plan.specs.Follow.{MayBegin, are_among, continues_from, deletes_from, failed_of, is_pinned_export, may_retain, set_number, updates_from}
 use Rattle.cf_prepare.specs.Answer.{first_of}
 use Rattle.cf_prepare.specs.Imports.{UsesJust}
@@ -124,12 +124,11 @@ not_in_use name x kept h =
     (unmapped_list (λ e. e.name) (filter (is_taken_away name x kept) x.exports)
     (none_least (λ n. n) (lost_names name x kept) (unmapped (λ n. fault.Stack (stack.ExportInUse n)) (least_of (lost_names name x kept)) h)))
 
-changing : (c : Changes) → if_unchanged c ≡ None → Changing c
-changing c h = by (is_empty c.rows) c.outputs_differ refl refl h where
-  by : (a b : Bool) → is_empty c.rows ≡ a → c.outputs_differ ≡ b → cond (a && not b) (Some (fault.Stack stack.NoChanges)) None ≡ None → Changing c
-  by false b e g k = inl e
-  by true true e g k = inr g
-  by true false e g k = some_none (fault.Stack stack.NoChanges) k
+changing : (c : Changes) → if_unchanged c ≡ None → is_unchanged c ≡ false
+changing c h = by (is_unchanged c) refl h where
+  by : (b : Bool) → is_unchanged c ≡ b → cond b (Some (fault.Stack stack.NoChanges)) None ≡ None → is_unchanged c ≡ false
+  by false e k = e
+  by true e k = some_none (fault.Stack stack.NoChanges) k
 
 -- a source that is not refused is accepted with the imports that it uses
 module _ (kinds : List (List ℕ)) (schemas : List Schema) (x : World) (name : List ℕ) (source : Source) (imports : List (List ℕ × List ℕ))
@@ -181,7 +180,7 @@ module _ (kinds : List (List ℕ)) (schemas : List Schema) (x : World) (name : L
       subst (λ (f : RowsFound). ImportsWhatItUses name x some f.seen) (sym found_same)
       (record { are_exports = uses.part; enough = uses.enough; all_used = uses.all_used })
 
-  pub accepted : IsTrue (creates_from s.status) ⊎ Changing c → IsAccepted schemas kinds name x s some
+  pub accepted : IsTrue (creates_from s.status) ⊎ (is_unchanged c ≡ false) → IsAccepted schemas kinds name x s some
   accepted h = record {
     no_flaw = ap (λ (d : Changes). d.flaws) changes_same ∙ no_flaw;
     known_types = ap (λ (q : Plan). list_all (λ w. is_among w.kind kinds) q.wanted) plan_same ∙ known kinds p (none_first (if_unknown kinds p) _ none_2);
@@ -189,7 +188,7 @@ module _ (kinds : List (List ℕ)) (schemas : List Schema) (x : World) (name : L
     imports = imports_used;
     free = ap (λ (q : Plan). are_free name x (export_names q)) plan_same ∙ free name x p (none_first (if_taken name x p) _ none_4);
     not_in_use = ap (λ (q : Plan). list_any (is_taken_away name x (export_names q)) x.exports) plan_same ∙ not_in_use name x (export_names p) (none_first (if_in_use name x (export_names p)) [] (none_behind (if_taken name x p) _ none_4));
-    changing = subst (λ (d : Changes). IsTrue (creates_from s.status) ⊎ Changing d) (sym changes_same) h;
+    changing = subst (λ (d : Changes). IsTrue (creates_from s.status) ⊎ (is_unchanged d ≡ false)) (sym changes_same) h;
   }
 
 -- a written source, as the stack works by it
@@ -214,7 +213,7 @@ module _ (schemas : List Schema) (x : World) (name : List ℕ) (source : Source)
   worked written w = written_as x name source written (set_number x t) w.rest
 
   begins : (written : Source) → IsWritten schemas x name source written → deploys_from t.status ≡ true
-      → first_of (source_refusals (lane_kinds x) schemas x name source) ≡ None → IsTrue (creates_from t.status) ⊎ Changing d
+      → first_of (source_refusals (lane_kinds x) schemas x name source) ≡ None → IsTrue (creates_from t.status) ⊎ (is_unchanged d ≡ false)
       → MayBegin schemas x (x.operation + 1) name (kind_by t written)
   begins written w may none h = by (creates_from t.status) refl where
     accepts : IsAccepted schemas (lane_kinds x) name x t (source_for name (set_number x t) written)
@@ -228,7 +227,7 @@ module _ (schemas : List Schema) (x : World) (name : List ℕ) (source : Source)
     by false e = (refl, update_so t.status may e, numbered false e)
 
   deployment_follows : (o : Order) → deploys_from t.status ≡ true → first_of (source_refusals (lane_kinds x) schemas x name source) ≡ None
-      → IsTrue (creates_from t.status) ⊎ Changing d → IsDeployment schemas x name source o → (w : Wish) → OrderFollows schemas x w o
+      → IsTrue (creates_from t.status) ⊎ (is_unchanged d ≡ false) → IsDeployment schemas x name source o → (w : Wish) → OrderFollows schemas x w o
   deployment_follows o may none h (written, is, e) w = subst (OrderFollows schemas x w) (sym e) (λ opened out. begins written is may none h)
 
   review_follows : (o : Order) → review_refusal schemas x name source ≡ None → IsReview schemas x name source o → (w : Wish) → OrderFollows schemas x w o
@@ -242,7 +241,7 @@ module _ (schemas : List Schema) (x : World) (name : List ℕ) (source : Source)
     none_source : first_of (source_refusals (schema_kinds schemas) schemas x name source) ≡ None
     none_source = none_first (first_of (source_refusals (schema_kinds schemas) schemas x name source)) _ none_2
 
-    changes : Changing d
+    changes : is_unchanged d ≡ false
     changes = changing d (none_first (if_unchanged d) [] (none_behind (first_of (source_refusals (schema_kinds schemas) schemas x name source)) _ none_2))
 
     same : changes_on schemas name x t (with_imports (proposal x name source) written.imports) ≡ d
@@ -251,7 +250,7 @@ module _ (schemas : List Schema) (x : World) (name : List ℕ) (source : Source)
     reviewed : IsReviewed schemas name x t (source_for name (set_number x t) written) d.rows d.outputs_differ
     reviewed = subst (λ (q : Source). IsReviewed schemas name x t q d.rows d.outputs_differ) (sym (worked written is)) (record {
       accepted = accepted (schema_kinds schemas) schemas x name source written.imports none_source is.uses (inr changes);
-      changing = subst Changing (sym same) changes;
+      changing = subst (λ (q : Changes). is_unchanged q ≡ false) (sym same) changes;
       rows_are = ap (λ (q : Changes). q.rows) (sym same);
       outputs_are = ap (λ (q : Changes). q.outputs_differ) (sym same);
     })
@@ -270,7 +269,7 @@ module _ (schemas : List Schema) (x : World) (name : List ℕ) (source : Source)
     none_3 : unless_created t (if_unchanged d) ≡ None
     none_3 = none_first (unless_created t (if_unchanged d)) [] (none_behind (first_of (source_refusals (lane_kinds x) schemas x name source)) _ none_2)
 
-    by : (b : Bool) → creates_from t.status ≡ b → IsTrue (creates_from t.status) ⊎ Changing d
+    by : (b : Bool) → creates_from t.status ≡ b → IsTrue (creates_from t.status) ⊎ (is_unchanged d ≡ false)
     by true e = inl e
     by false e = inr (changing d (ap (λ b. cond b None (if_unchanged d)) (sym e) ∙ none_3))
 

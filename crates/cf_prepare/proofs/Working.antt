@@ -7,7 +7,7 @@ use Rattle.cf_tree.specs.Lists.{first_in}
 use Rattle.cf_tree.specs.declared.row.Row.{Row}
 use Rattle.cf_tree.specs.declared.source.Source.{Source}
 use Rattle.cf_schema.specs.declared.described.Schema.{Schema}
-use Rattle.cf_change.specs.Changes.{Changed, Changes, RowsFound, changes_by, found_of, is_empty, least_of, refusal_by, refusal_of}
+use Rattle.cf_change.specs.Changes.{Changed, Changes, RowsFound, changes_by, found_of, is_empty, is_unchanged, least_of, refusal_by, refusal_of}
 use Rattle.cf_change.specs.declared.held.HeldMap.{HeldMap}
 use Rattle.cf_change.specs.declared.set.ChangeFault.{ChangeFault}
 use Rattle.cf_change.specs.declared.set.ChangeFault.TheVariants as change
@@ -25,7 +25,7 @@ use Rattle.cf_prepare.specs.Answer.{TestsAs, first_of}
 use Rattle.cf_prepare.specs.Imports.{UsesJust}
 use Rattle.cf_prepare.specs.Orders.{IsDeployment, IsReview, kind_by}
 use Rattle.cf_prepare.specs.Prepare.{ExecutesAs, ExecutesFound, ExecutesSet}
-use Rattle.cf_prepare.specs.Refusals.{deploy_refusal, execute_refusal, if_barred, if_flawed, if_in_use, if_missing, if_no_set, if_taken, if_type_changed, if_unchanged, if_unknown, is_unchanged, proposal, proposed_changes, proposed_plan, refusals_by, review_refusal, set_of, set_refusal, source_refusals, unless_created}
+use Rattle.cf_prepare.specs.Refusals.{deploy_refusal, execute_refusal, if_barred, if_flawed, if_in_use, if_missing, if_no_set, if_taken, if_type_changed, if_unchanged, if_unknown, proposal, proposed_changes, proposed_plan, refusals_by, review_refusal, set_of, set_refusal, source_refusals, unless_created}
 use Rattle.cf_desired.specs.Whole.{export_names}
 use Rattle.cf_plan.specs.Accept.{schema_kinds}
 use Rattle.cf_plan.specs.Follow.{lane_kinds}

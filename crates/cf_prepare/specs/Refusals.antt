@@ -1,6 +1,6 @@
 -- Why a wish is refused (User Guide: what a stack's status lets be done, change sets, exports that are in use; TypeChanged, and
 -- that an export's name is tested before anything is made, are this project's own).
-use Rattle.std.specs.Prelude.{ℕ, ◌==◌, Bool, ◌&&◌, not, List, [], ◌∷◌, ◌++◌, Option, Some, None, filter, find, fold, is_some, map, option_map, if◌then◌else◌}
+use Rattle.std.specs.Prelude.{ℕ, ◌==◌, Bool, not, List, [], ◌∷◌, ◌++◌, Option, Some, None, filter, find, fold, is_some, map, option_map, if◌then◌else◌}
 use Rattle.cf_tree.specs.Lists.{first_in, is_among, least_by}
 use Rattle.cf_tree.specs.declared.source.Source.{Source}
 use Rattle.cf_schema.specs.declared.described.Schema.{Schema}
@@ -9,7 +9,7 @@ use Rattle.cf_desired.specs.Seeing.{Seen}
 use Rattle.cf_desired.specs.Whole.{export_names}
 use Rattle.cf_desired.specs.declared.wanted.Plan.{Plan}
 use Rattle.cf_desired.specs.declared.wanted.Wanted.{Wanted}
-use Rattle.cf_change.specs.Changes.{Changes, is_empty, least_of}
+use Rattle.cf_change.specs.Changes.{Changes, is_unchanged, least_of}
 use Rattle.cf_entry.specs.declared.status.Status.{Status}
 use Rattle.cf_entry.specs.declared.status.Status.TheVariants as status
 use Rattle.cf_effect.specs.declared.held.KeptSet.{KeptSet}
@@ -83,9 +83,6 @@ abbrev pub if_in_use : List ℕ → World → List (List ℕ) → Option Prepare
 if_in_use name x kept = option_map (λ n. fault.Stack (stack.ExportInUse n)) (least_of (lost_names name x kept))
 
 -- nothing changes
-abbrev pub is_unchanged : Changes → Bool
-is_unchanged c = is_empty c.rows && not c.outputs_differ
-
 abbrev pub if_unchanged : Changes → Option PrepareFault
 if_unchanged c = if is_unchanged c then Some (fault.Stack stack.NoChanges) else None
 

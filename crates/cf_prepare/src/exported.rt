@@ -31,7 +31,8 @@ fn put_export(
     name: &Txt,
     own: bool,
 ) -> Result<(), AllocError>
-    ensures { IfOk result (λ _. pairs.new ≡ (if is_exported_by own name.now export.now then put export.now.name export.now.value pairs.old else pairs.old)) }
+    ensures { IfOk result (λ _. pairs.new ≡ (if is_exported_by own name.now export.now then put export.now.name export.now.value pairs.old
+        else pairs.old)) }
 {
     if is_of(export, name, own) {
         pairs.insert(

@@ -71,7 +71,11 @@ fn outputs_of(alloc: Global, world: &World, name: &Txt) -> Result<Outputs, Alloc
 ///
 /// Only for want of memory.
 pub fn held_of(alloc: Global, world: &World, name: &Txt) -> Result<HeldMap, AllocError>
-    ensures { IfOk result (λ m. m ≡ record { resources = held_by (known_stack name.now world.now.world); outputs = (known_stack name.now world.now.world).outputs; exports = exports_by name.now world.now.world }) }
+    ensures { IfOk result (λ m. m ≡ record {
+      resources = held_by (known_stack name.now world.now.world);
+      outputs = (known_stack name.now world.now.world).outputs;
+      exports = exports_by name.now world.now.world;
+    }) }
 {
     let outputs = outputs_of(alloc, world, name)?;
     let exports = exports_by(alloc, world, name)?;

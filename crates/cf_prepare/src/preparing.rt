@@ -72,7 +72,8 @@ fn deployment(
     source: &Source,
     imports: Pairs,
 ) -> Result<Order, AllocError>
-    ensures { IfOk result (λ o. o ≡ order.Begin (entry.Begin (world.now.world.operation + 1) name.now (kind_by (known_stack name.now world.now.world) (with_imports (source_for name.now 0 source.now) imports)))) }
+    ensures { IfOk result (λ o. o ≡ order.Begin (entry.Begin (world.now.world.operation + 1) name.now (kind_by (known_stack name.now
+        world.now.world) (with_imports (source_for name.now 0 source.now) imports)))) }
 {
     match importing(alloc, name, 0, source, imports) {
         Ok(written) => begin(alloc, world, name, kind_by(world, name, written)),
@@ -82,7 +83,8 @@ fn deployment(
 
 /// Refuses a source that changes nothing, unless the stack is created.
 fn test_update(world: &World, name: &Txt, changes: &ChangeSet) -> Result<(), PrepareFault>
-    ensures { (c : Changed) → changes.now ≡ set_by c → TestsAs (unless_created (known_stack name.now world.now.world) (if_unchanged c)) (λ _. ⊤) result }
+    ensures { (c : Changed) → changes.now ≡ set_by c → TestsAs (unless_created (known_stack name.now world.now.world) (if_unchanged c))
+        (λ _. ⊤) result }
 {
     if creates_from(status_of(world, name)) {
         Ok(())
@@ -99,7 +101,9 @@ fn deploy_worked(
     source: &Source,
     worked: Worked,
 ) -> Result<Order, PrepareFault>
-    ensures { (c : Changed) → worked.changes ≡ set_by c → TestsAs (unless_created (known_stack name.now world.now.world) (if_unchanged c)) (λ o. o ≡ order.Begin (entry.Begin (world.now.world.operation + 1) name.now (kind_by (known_stack name.now world.now.world) (with_imports (source_for name.now 0 source.now) worked.imports)))) result }
+    ensures { (c : Changed) → worked.changes ≡ set_by c → TestsAs (unless_created (known_stack name.now world.now.world) (if_unchanged c))
+        (λ o. o ≡ order.Begin (entry.Begin (world.now.world.operation + 1) name.now (kind_by (known_stack name.now world.now.world)
+        (with_imports (source_for name.now 0 source.now) worked.imports)))) result }
 {
     let Worked { imports, changes } = worked;
     let tested = test_update(world, name, &changes);
@@ -123,7 +127,8 @@ fn deploy(
     schemas: &Schemas,
 ) -> Result<Order, PrepareFault>
     requires templates { templates.now ≡ templates_of source.now }
-    ensures { TestsAs (deploy_refusal schemas.now world.now.world name.now source.now) (IsDeployment schemas.now world.now.world name.now source.now) result }
+    ensures { TestsAs (deploy_refusal schemas.now world.now.world name.now source.now) (IsDeployment schemas.now world.now.world name.now
+        source.now) result }
 {
     test_deploys(world, name)?;
     let kinds = lane_kinds(alloc, world)?;
@@ -149,7 +154,9 @@ fn review_worked(
     source: &Source,
     worked: Worked,
 ) -> Result<Order, PrepareFault>
-    ensures { (c : Changed) → worked.changes ≡ set_by c → TestsAs (if_unchanged c) (λ o. o ≡ order.Review (entry.ChangeSet (world.now.world.set + 1) name.now (with_imports (source_for name.now 0 source.now) worked.imports) c.rows c.outputs_differ)) result }
+    ensures { (c : Changed) → worked.changes ≡ set_by c → TestsAs (if_unchanged c) (λ o. o
+        ≡ order.Review (entry.ChangeSet (world.now.world.set + 1) name.now (with_imports (source_for name.now 0 source.now) worked.imports)
+        c.rows c.outputs_differ)) result }
 {
     let Worked { imports, changes } = worked;
     match test_changing(&changes) {
@@ -171,7 +178,8 @@ fn kept(
     imports: Pairs,
     changes: ChangeSet,
 ) -> Result<Order, AllocError>
-    ensures { IfOk result (λ o. o ≡ order.Review (entry.ChangeSet (world.now.world.set + 1) name.now (with_imports (source_for name.now 0 source.now) imports) changes.rows changes.outputs_differ)) }
+    ensures { IfOk result (λ o. o ≡ order.Review (entry.ChangeSet (world.now.world.set + 1) name.now (with_imports (source_for name.now 0
+        source.now) imports) changes.rows changes.outputs_differ)) }
 {
     let number = next_number(world.set());
     let stack = name.try_clone(alloc);
@@ -202,7 +210,8 @@ fn review(
     schemas: &Schemas,
 ) -> Result<Order, PrepareFault>
     requires templates { templates.now ≡ templates_of source.now }
-    ensures { TestsAs (review_refusal schemas.now world.now.world name.now source.now) (IsReview schemas.now world.now.world name.now source.now) result }
+    ensures { TestsAs (review_refusal schemas.now world.now.world name.now source.now) (IsReview schemas.now world.now.world name.now
+        source.now) result }
 {
     test_deploys(world, name)?;
     let kinds = schema_kinds(alloc, schemas)?;
@@ -229,7 +238,9 @@ fn execute_worked(
     set: &KeptSet,
     worked: Worked,
 ) -> Result<Order, PrepareFault>
-    ensures { (c : Changed) → worked.changes ≡ set_by c → ExecutesSet (if_unchanged c) number c.rows set.now.rows (λ o. o ≡ order.Begin (entry.Begin (world.now.world.operation + 1) name.now (kind_by (known_stack name.now world.now.world) (with_imports (source_for name.now 0 set.now.source) worked.imports)))) result }
+    ensures { (c : Changed) → worked.changes ≡ set_by c → ExecutesSet (if_unchanged c) number c.rows set.now.rows (λ o. o
+        ≡ order.Begin (entry.Begin (world.now.world.operation + 1) name.now (kind_by (known_stack name.now world.now.world) (with_imports
+        (source_for name.now 0 set.now.source) worked.imports)))) result }
 {
     let Worked { imports, changes } = worked;
     let tested = test_changing(&changes);
@@ -262,7 +273,9 @@ fn execute_set(
     schemas: &Schemas,
 ) -> Result<Order, PrepareFault>
     requires templates { templates.now ≡ templates_of set.now.source }
-    ensures { ExecutesSet (execute_refusal schemas.now world.now.world name.now set.now.source) number (proposed_changes schemas.now world.now.world name.now set.now.source).rows set.now.rows (IsDeployment schemas.now world.now.world name.now set.now.source) result }
+    ensures { ExecutesSet (execute_refusal schemas.now world.now.world name.now set.now.source) number (proposed_changes schemas.now
+        world.now.world name.now set.now.source).rows set.now.rows (IsDeployment schemas.now world.now.world name.now set.now.source)
+        result }
 {
     let kinds = lane_kinds(alloc, world)?;
     let place = Place {
@@ -298,7 +311,8 @@ fn execute(
     templates: &Templates,
     schemas: &Schemas,
 ) -> Result<Order, PrepareFault>
-    requires templates { (k : Kept) → set_of number (known_stack name.now world.now.world) ≡ Some k → templates.now ≡ templates_of k.source }
+    requires templates { (k : Kept) → set_of number (known_stack name.now world.now.world) ≡ Some k
+        → templates.now ≡ templates_of k.source }
     ensures { ExecutesAs (set_refusal world.now.world name.now number) schemas.now world.now.world name.now number result }
 {
     test_there(world, name)?;
@@ -316,7 +330,8 @@ fn test_deletion(
     name: &Txt,
     paths: &Names,
 ) -> Result<(), PrepareFault>
-    ensures { TestsAs (first_of (if_not_failed (may_keep (known_stack name.now world.now.world).status (known_stack name.now world.now.world)) paths.now ∷ if_in_use name.now world.now.world [] ∷ [])) (λ _. ⊤) result }
+    ensures { TestsAs (first_of (if_not_failed (may_keep (known_stack name.now world.now.world).status (known_stack name.now
+        world.now.world)) paths.now ∷ if_in_use name.now world.now.world [] ∷ [])) (λ _. ⊤) result }
 {
     let failed = may_keep(alloc, world, name)?;
     let tested = test_failed(alloc, &failed, paths);

@@ -112,7 +112,8 @@ fn resume_on(alloc: Global, world: &World, stack: &StackState) -> Result<Order, 
 
 /// The operation in progress on the stack of a name goes on, where there is one and it can.
 pub(crate) fn resume(alloc: Global, world: &World, name: &Txt) -> Result<Order, PrepareFault>
-    ensures { ResumesAs (resume_refusal world.now.world name.now) (lane_kinds world.now.world) (known_stack name.now world.now.world) result }
+    ensures { ResumesAs (resume_refusal world.now.world name.now) (lane_kinds world.now.world) (known_stack name.now world.now.world)
+        result }
 {
     test_there(world, name)?;
     test_in_progress(world, name)?;

@@ -166,7 +166,8 @@ pub(crate) fn test_taken(
     name: &Txt,
     names: &Names,
 ) -> Result<(), PrepareFault>
-    ensures { TestsAs (option_map (λ n. fault.Stack (stack.ExportTaken n)) (least_of (taken_names name.now world.now.world names.now))) (λ _. ⊤) result }
+    ensures { TestsAs (option_map (λ n. fault.Stack (stack.ExportTaken n)) (least_of (taken_names name.now world.now.world names.now)))
+        (λ _. ⊤) result }
 {
     let all = taken_names(alloc, world, name, names.as_slice())?;
     let tested = match least_of(all.as_slice()) {

@@ -1,12 +1,12 @@
 //! What a source comes to on a stack: the imports that it uses and what it changes, or why it is refused.
 ghost use Rattle.std.specs.Prelude.{◌≡◌, ◌∷◌, ⊤, [], None, IfOk, false};
 ghost use Rattle.cf_change.specs.declared.set.ChangeFault.TheVariants as change;
-ghost use Rattle.cf_change.specs.Changes.{Changes as Changed, changes_by, found_of, is_empty, least_of};
+ghost use Rattle.cf_change.specs.Changes.{Changes as Changed, changes_by, found_of, is_unchanged, least_of};
 ghost use Rattle.cf_change.specs.declared.held.HeldMap.{HeldMap as Resources};
 ghost use Rattle.cf_desired.specs.Plan.{plan_of};
 ghost use Rattle.cf_desired.specs.Templates.{templates_of};
 ghost use Rattle.cf_prepare.specs.Answer.{TestsAs, first_of};
-ghost use Rattle.cf_prepare.specs.Refusals.{if_in_use, if_taken, if_unchanged, is_unchanged, proposal, refusals_by, source_refusals};
+ghost use Rattle.cf_prepare.specs.Refusals.{if_in_use, if_taken, if_unchanged, proposal, refusals_by, source_refusals};
 ghost use Rattle.cf_desired.specs.Whole.{export_names};
 ghost use Rattle.cf_prepare.specs.Worked.{IsMild, IsWorked, WorksAs, WorksBy, refusal_over, set_by};
 
@@ -42,7 +42,8 @@ pub(crate) struct Place<'a> {
 
 /// Refuses names of exports that are taken, and names that are imported and missing.
 fn test_exports(alloc: Global, place: &Place, plan: &Plan) -> Result<(), PrepareFault>
-    ensures { TestsAs (first_of (if_taken place.now.name.now place.now.world.now.world plan.now ∷ if_in_use place.now.name.now place.now.world.now.world (export_names plan.now) ∷ [])) (λ _. ⊤) result }
+    ensures { TestsAs (first_of (if_taken place.now.name.now place.now.world.now.world plan.now
+        ∷ if_in_use place.now.name.now place.now.world.now.world (export_names plan.now) ∷ [])) (λ _. ⊤) result }
 {
     let names = export_names(alloc, plan)?;
     test_taken(alloc, place.world, place.name, &names)?;
@@ -51,7 +52,8 @@ fn test_exports(alloc: Global, place: &Place, plan: &Plan) -> Result<(), Prepare
 
 /// Refuses a source for its plan, its types, and its changes and exports.
 fn test_source(alloc: Global, place: &Place, clash: &Names, plan: &Plan) -> Result<(), PrepareFault>
-    ensures { (c : Changed) → c.clash ≡ clash.now → TestsAs (first_of (refusals_by place.now.kinds.now place.now.world.now.world place.now.name.now c plan.now)) (λ _. ⊤) result }
+    ensures { (c : Changed) → c.clash ≡ clash.now → TestsAs (first_of (refusals_by place.now.kinds.now place.now.world.now.world
+        place.now.name.now c plan.now)) (λ _. ⊤) result }
 {
     test_flaws(alloc, plan)?;
     test_kinds(alloc, place.kinds, plan)?;
@@ -128,7 +130,8 @@ fn finish_with(
 ) -> Result<Worked, AllocError>
     requires flawless { plan.now.flaws ≡ [] }
     requires clash { least_of found.clash ≡ None }
-    ensures { IfOk result (λ w. (w.imports ≡ imports) × (w.changes ≡ set_by (changes_by held.now.resources held.now.outputs held.now.exports found plan.now))) }
+    ensures { IfOk result (λ w. (w.imports ≡ imports) × (w.changes
+        ≡ set_by (changes_by held.now.resources held.now.outputs held.now.exports found plan.now))) }
 {
     match changes_over(alloc, held, found, plan) {
         Ok(changes) => Ok(Worked { imports, changes }),
@@ -152,7 +155,8 @@ fn work_by(
     requires templates { templates.now ≡ templates_of source.now }
     requires found { found ≡ found_of place.now.schemas.now held.now.resources source.now }
     requires plan { plan.now ≡ plan_of source.now found.seen }
-    ensures { TestsAs (refusal_over place.now.kinds.now place.now.world.now.world place.now.name.now place.now.schemas.now held.now source.now) (WorksBy place.now.schemas.now held.now source.now) result }
+    ensures { TestsAs (refusal_over place.now.kinds.now place.now.world.now.world place.now.name.now place.now.schemas.now held.now
+        source.now) (WorksBy place.now.schemas.now held.now source.now) result }
 {
     match test_source(alloc, place, &found.clash, plan) {
         Ok(()) => {
@@ -175,7 +179,8 @@ fn work_over(
     templates: &Templates,
 ) -> Result<Worked, PrepareFault>
     requires templates { templates.now ≡ templates_of source.now }
-    ensures { TestsAs (refusal_over place.now.kinds.now place.now.world.now.world place.now.name.now place.now.schemas.now held.now source.now) (WorksBy place.now.schemas.now held.now source.now) result }
+    ensures { TestsAs (refusal_over place.now.kinds.now place.now.world.now.world place.now.name.now place.now.schemas.now held.now
+        source.now) (WorksBy place.now.schemas.now held.now source.now) result }
 {
     let found = found_of(alloc, place.schemas, &held.resources, source, templates)?;
     match plan(alloc, source, templates, &found.seen) {
@@ -199,7 +204,8 @@ pub(crate) fn work_out(
     templates: &Templates,
 ) -> Result<Worked, PrepareFault>
     requires templates { templates.now ≡ templates_of source.now }
-    ensures { TestsAs (first_of (source_refusals place.now.kinds.now place.now.schemas.now place.now.world.now.world place.now.name.now source.now)) (IsWorked place.now.schemas.now place.now.world.now.world place.now.name.now source.now) result }
+    ensures { TestsAs (first_of (source_refusals place.now.kinds.now place.now.schemas.now place.now.world.now.world place.now.name.now
+        source.now)) (IsWorked place.now.schemas.now place.now.world.now.world place.now.name.now source.now) result }
 {
     let held = held_of(alloc, place.world, place.name)?;
     match proposal(alloc, place.world, place.name, source) {

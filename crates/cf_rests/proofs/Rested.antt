@@ -1,6 +1,6 @@
 -- Outputs and exports rest on what is seen of the paths that their expressions mention alone.
 use Rattle.std.proofs.Common.{◌≡◌, ℕ, List, [], ◌∷◌, ◌++◌, Bool, true, false, ◌||◌, Option, Some, None, refl, sym, ap, subst, ◌∙◌, filter, filter_map, find, map}
-use Rattle.std.specs.Prelude.{cond, flat_map}
+use Rattle.std.specs.Prelude.{cond, flat_map, unwrap_or}
 use Rattle.std.specs.List.{cons_option}
 use Rattle.std.specs.Option.{option_map_or}
 use Rattle.std.specs.Str.{bytes_eq}
@@ -20,7 +20,7 @@ use Rattle.cf_desired.specs.Names.{pseudo_of, stack_id}
 use Rattle.cf_desired.specs.Plan.{export_met, exported, outputs_in}
 use Rattle.cf_desired.specs.Rests.{SeesAllSame, maybe_mentions}
 use Rattle.cf_desired.specs.Seeing.{Seen, by_names, first_sights, is_output_made, nested_sight, outputs_inside, own_ids, sights_after}
-use Rattle.cf_desired.specs.Shape.{StandsFor, first_stands, given_root, paths_inside, shape_of, stood_for, those}
+use Rattle.cf_desired.specs.Shape.{StandsFor, first_stands, given_root, paths_inside, shape_of, stood_for}
 use Rattle.cf_desired.specs.Stack.{Stack, Verdicts, Sights}
 use Rattle.cf_desired.specs.Stays.{AgreeAt}
 use Rattle.cf_desired.specs.Valued.{member_props}
@@ -69,7 +69,7 @@ pub with_outputs : (o : Option Flaw) (xs : List Met) (os : List WantedOutput) �
 with_outputs o xs os = behind_flaw o (xs ++ map (λ o. an_output o) os) ∙ outputs_both xs (map (λ o. an_output o) os) ∙ ap (λ l. outputs_among xs ++ l) (all_wanted os)
 
 -- what expressions mention is among what an output rests on
-module _ (t : Template) (ids : List (List ℕ)) (stands : StandsFor) (needs : List (List ℕ)) (all : (id : List ℕ) → is_among id ids ≡ true → In needs (those (value_at id stands))) where
+module _ (t : Template) (ids : List (List ℕ)) (stands : StandsFor) (needs : List (List ℕ)) (all : (id : List ℕ) → is_among id ids ≡ true → In needs (unwrap_or (value_at id stands) [])) where
   covers_named : (xs : List Mention) → ((id : List ℕ) → is_among id (filter_map (meant t) xs) ≡ true → is_among id ids ≡ true) → CoversAll t needs stands xs
   covers_named [] h = tt
   covers_named (by_attribute name ∷ xs) h =
@@ -115,7 +115,7 @@ module _ (source : Source) (a b : Seen) where
     needs_around : (o : Out) → In (needs_for o) around
     needs_around o q i = among_order q (stood_for stands (ids_mentioned t.template conds o) ++ around) (among_second q (stood_for stands (ids_mentioned t.template conds o)) around i)
 
-    needs_named : (o : Out) (id : List ℕ) → is_among id (ids_mentioned t.template conds o) ≡ true → In (needs_for o) (those (value_at id stands))
+    needs_named : (o : Out) (id : List ℕ) → is_among id (ids_mentioned t.template conds o) ≡ true → In (needs_for o) (unwrap_or (value_at id stands) [])
     needs_named o id i q j =
         among_order q (stood_for stands (ids_mentioned t.template conds o) ++ around)
         (among_first q (stood_for stands (ids_mentioned t.template conds o)) around (stood stands id (ids_mentioned t.template conds o) i q j))

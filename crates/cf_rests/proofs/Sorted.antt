@@ -4,7 +4,7 @@ use Rattle.std.proofs.Common.{arith, ◌≡◌, ◌∙◌, ℕ, List, ◌∷◌,
 use Rattle.serde_json.specs.{Data.Data, Data.object, Data.Members, Data.no_members, Data.member, Find.get}
 use Rattle.cf_tree.specs.Forms.{Form}
 use Rattle.cf_tree.specs.declared.{template.Param.Param, template.Res.Res, template.Template.Template}
-use Rattle.cf_eval.specs.{Outcome.got, Outcome.later, Outcome.bad, Outcome.Outcome, Scope.Scope, Env.conditions_of}
+use Rattle.cf_eval.specs.{Outcome.got, Outcome.later, Outcome.bad, Outcome.Outcome, Scope.Scope, Conditions.conditions_of}
 use Rattle.cf_desired.specs.{Given.Given, Given.settings_for, Shape.PlanInProgress, Shape.member_of, Stack.Scoping, Stack.Verdicts, Stack.Settings, Names.pseudo_of, Templates.accepted, Templates.is_stack, Templates.template_named}
 use Rattle.cf_desired.proofs.Keeping.{over}
 use Rattle.cf_template.specs.declared.{refusal.TemplateFault.TemplateFault, refusal.TemplateFault.TheVariants.BadName, refusal.TemplateFault.TheVariants.TooLong}
@@ -12,7 +12,7 @@ use Rattle.cf_template.specs.{Exprs.fields_in, Exprs.form_of, Exprs.values_of, F
 use Rattle.cf_graph.specs.Needs.{OrderFault, resource_named}
 use Rattle.cf_tree.specs.Datum as tree
 use Rattle.cf_desired.specs.Seeing.{Seen}
-use Rattle.cf_desired.specs.Shape.{Entering, Laying, Url, body_at, body_bound, body_decided, given_root, inside_of, laid, nested_before, nesting_of, progress_after, root_of, shape_of, step_before, unnamed_at, work_along}
+use Rattle.cf_desired.specs.Shape.{Entering, Laying, body_at, body_bound, body_decided, given_root, inside_of, laid, nested_before, nesting_of, progress_after, root_of, shape_of, step_before, unnamed_at, work_along}
 use Rattle.cf_desired.specs.Valued.{resources_along, resources_in as members_in_shape, resources_inside}
 use Rattle.cf_desired.specs.Work.{Inside, Member, Nesting, barred, resource}
 use Rattle.cf_desired.specs.declared.flaw.Flaw.{Flaw}
@@ -153,7 +153,7 @@ LaysSorted None = ⊤
 LaysSorted (Some lay) = (e : Entering) (g : Given) (t m : ℕ) → AllSorted e.stack.template.resources → MembersSorted (members_in_shape (lay e g t m))
 
 module _ (lay : Option Laying) (source : Source) (seen : Seen) (lays : LaysSorted lay) where
-  at_sorted : (e : Entering) (n : Nesting) (r : Res) (t m : ℕ) (g : Given) (u : Url) → MembersSorted (members_in_shape (body_at lay source e n r t m g u))
+  at_sorted : (e : Entering) (n : Nesting) (r : Res) (t m : ℕ) (g : Given) (u : Result (List ℕ) Flaw) → MembersSorted (members_in_shape (body_at lay source e n r t m g u))
   at_sorted e n r t m g u = grind (arith, none_sorted, named_sorted, either_way)
 
   inside_sorted : (e : Entering) (s : Scope) (c : PlanInProgress) (n : Nesting) (r : Res) (o : Option Flaw) → MembersSorted (resources_inside (inside_of lay source e s c n r o))

@@ -5,9 +5,7 @@ use crate::fault::eval_fault;
 use crate::heading::Kind;
 use crate::json::{push_object, push_value};
 use crate::told::Told;
-use cf_eval::{
-    Env, EvalFault, Got, OutputSight, SeenAt, Sight, Sights, conditions, eval, eval_props,
-};
+use cf_eval::{Env, EvalFault, Got, OutputSight, SeenAt, Sight, Sights, conditions, eval};
 use cf_rows::Memory;
 use cf_template::read_template;
 use cf_tree::{
@@ -183,7 +181,7 @@ fn worth(told: &mut Told, expr: &Expr, env: &Env) {
 }
 
 fn worths(told: &mut Told, props: &ExprDict, env: &Env) {
-    match eval_props(told.memory.alloc, props, env) {
+    match object_by(told.memory.alloc, props, env) {
         Ok(Some(object)) => {
             push_object(told, &object);
             drop(object);
@@ -193,6 +191,36 @@ fn worths(told: &mut Told, props: &ExprDict, env: &Env) {
             eval_fault(told, &fault);
             drop(fault);
         }
+    }
+}
+
+/// What an object of expressions comes to: a member that is `AWS::NoValue` is left out, and the whole is `None` where a member is
+/// Later.
+fn object_by(alloc: Global, props: &ExprDict, env: &Env) -> Result<Option<Dict>, EvalFault> {
+    let mut object = Dict::new(alloc);
+    let mut is_known = true;
+    for pair in props.as_slice() {
+        match eval(alloc, &pair.value, env) {
+            Ok(Got::Value(value)) => add_member(alloc, &mut object, &pair.name, value)?,
+            Ok(Got::NoValue) => {}
+            Ok(Got::Later) => is_known = false,
+            Err(fault) => return Err(fault),
+        }
+    }
+    if is_known {
+        return Ok(Some(object));
+    }
+    drop(object);
+    Ok(None)
+}
+
+fn add_member(alloc: Global, object: &mut Dict, name: &Txt, value: Val) -> Result<(), EvalFault> {
+    let Ok(name) = name.try_clone(alloc) else {
+        return Err(EvalFault::NoMemory);
+    };
+    match object.insert(name, value) {
+        Ok(()) => Ok(()),
+        Err(_) => Err(EvalFault::NoMemory),
     }
 }
 
@@ -280,7 +308,7 @@ fn id_of(memory: &mut Memory, head: &str, name: &Txt) -> Txt {
 }
 
 fn attributes(alloc: Global, props: &ExprDict, env: &Env) -> Option<Dict> {
-    match eval_props(alloc, props, env) {
+    match object_by(alloc, props, env) {
         Ok(attributes) => attributes,
         Err(fault) => {
             drop(fault);

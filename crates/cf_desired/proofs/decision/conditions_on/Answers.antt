@@ -1,6 +1,7 @@
 use Rattle.std.proofs.Common.{subst}
 use Rattle.cf_tree.specs.declared.template.Template.{Template}
-use Rattle.cf_eval.specs.Env.{Decides, conditions_of}
+use Rattle.cf_eval.specs.Env.{Decides}
+use Rattle.cf_eval.specs.Conditions.{conditions_of}
 use Rattle.cf_desired.proofs.decision.conditions_on.Goals as goal
 
 pub returns : goal.returns

@@ -1,5 +1,5 @@
 use Rattle.std.proofs.Common.{◌≡◌, map, drop}
-use Rattle.cf_eval.specs.ScopeOf.{verdict_of}
+use Rattle.cf_eval.specs.Scope.{verdict_of}
 use Rattle.cf_desired.specs.Shape.{first_later}
 use Rattle.cf_desired.proofs.decision.first_later.Given as goal
 

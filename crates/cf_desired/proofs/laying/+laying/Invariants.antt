@@ -1,6 +1,6 @@
 use Rattle.std.proofs.Common.{◌≡◌, ◌+◌, ◌*◌}
 use Rattle.std.specs.Prelude.{fold}
-use Rattle.cf_desired.specs.Kept.{course_in, entering_in, scope_by}
+use Rattle.cf_desired.specs.Kept.{so_far_in, entering_in, scope_by}
 use Rattle.cf_desired.specs.Laying.{enterable_below, few, step_by}
 use Rattle.cf_desired.proofs.laying.+laying.Given as goal
 
@@ -24,6 +24,6 @@ decreases-within l = 6 * l.left
 
 abbrev pub invariant-work-loop-id : goal.invariant-work-loop-id
 invariant-work-loop-id l =
-    let step = step_by (enterable_below l.left l.laying.source.now l.laying.seen.now) l.laying.source.now l.laying.seen.now (entering_in l.entering) l.ground.conds.now (scope_by l.ground) in
-    (fold step (course_in l.fn.course) l.order.entries ≡ fold step (course_in l.course) l.id-iterator)
-    × few l.course.count.templates l.course.count.members
+    let step = step_by (enterable_below l.left l.laying.source.now l.laying.seen.now) l.laying.source.now l.laying.seen.now (entering_in l.entering) l.context.conds.now (scope_by l.context) in
+    (fold step (so_far_in l.fn.so_far) l.order.entries ≡ fold step (so_far_in l.so_far) l.id-iterator)
+    × few l.so_far.count.templates l.so_far.count.members

@@ -9,7 +9,7 @@ use Rattle.cf_eval.specs.Env.{scope_in}
 use Rattle.cf_eval.specs.Outcome.{Outcome}
 use Rattle.cf_eval.specs.declared.fault.EvalWhy.TheVariants.{UnknownName}
 use Rattle.cf_desired.specs.declared.flaw.Flaw.TheVariants as flaw
-use Rattle.cf_desired.specs.declared.told.Blame.{Blame}
+use Rattle.cf_desired.specs.declared.evaluations.Blame.{Blame}
 use Rattle.cf_desired.specs.Given.{Offers, offers_in, value_offers}
 use Rattle.cf_desired.specs.Kept.{IsOffers, flaw_of_blame}
 use Rattle.cf_desired.proofs.Offering.{by_value, by_undecided}

@@ -6,11 +6,11 @@ use Rattle.cf_tree.specs.Forms.{Form, expr, fields_of, place_of}
 use Rattle.cf_tree.specs.Forms as node
 use Rattle.cf_tree.specs.Keys.{ascends}
 use Rattle.cf_tree.specs.declared.expr.ExprPair.{ExprPair}
-use Rattle.cf_eval.specs.Env.{plain, scope_in}
-use Rattle.cf_eval.specs.Value.{blamed, form_found}
+use Rattle.cf_eval.specs.Env.{scope_in}
+use Rattle.cf_eval.specs.Value.{blamed, value_within}
 use Rattle.cf_param.specs.declared.offered.Piece.{Piece}
 use Rattle.cf_desired.specs.declared.offers.Offer.TheVariants as offer
-use Rattle.cf_desired.specs.declared.told.Blame.{Blame}
+use Rattle.cf_desired.specs.declared.evaluations.Blame.{Blame}
 use Rattle.cf_desired.specs.Given.{blamed_on, offered_fields, offers_in, pieces}
 use Rattle.cf_desired.specs.Kept.{IsOffers, Takes, blame_at, flaw_of_blame}
 use Rattle.cf_desired.specs.Stack.{stop_in}
@@ -27,7 +27,7 @@ loop-pair-preserved c =
     let around = option_copied c.args.around in
     let stack = c.args.env.now.stack.now in
     let e = c.pair-item.result.value in
-    let f = plain (form_found s around e) in
+    let f = value_within s around e in
     let offered = offered_fields s around (fields_of c.args.pairs.now) in
     let at_is : c.blamed-at.result.now ≡ blamed_on around e =
     c.blamed-at.ensures ∙ ap (λ (a : List ℕ). blamed around a (node_of c.node.result.now)) c.at.ensures ∙ sym (ap (λ (x : Form). blamed_on around x) c.node.ensures) in
@@ -58,7 +58,7 @@ returns c =
     let stack = c.args.env.now.stack.now in
     let offered = offered_fields s around (fields_of c.args.pairs.now) in
     let done = subst (λ (ps : List ExprPair). IsTaking stack offered (offered_fields s around (fields_of (fields_in ps))) c.loop-pair.taken) none c.loop-pair.invariant in
-    let whole = λ (x : Form). stop_in (plain (form_found s around x)) in
+    let whole = λ (x : Form). stop_in (value_within s around x) in
     let form : Form = expr (place_of c.args.form.now) (node.dict (fields_of c.args.pairs.now)) in
     subst (λ (x : Form). IsOffers stack (offers_in s around x) (record { given = offer.Pieces c.from_names.result; flaw = c.some_flaw_by.result })) (sym c.requires)
     (record {

@@ -8,6 +8,6 @@ use Rattle.cf_effect.proofs.following.note_made.Goals as goal
 pub returns-in-Some : goal.returns-in-Some
 returns-in-Some c =
     λ t h is stands.
-    let new : Findings = record c.args.findings.now { made = c.put_place.new.places; found = c.forget_users.new.found } in
+    let new : Findings = record c.args.findings.now { made = c.put_place.new.places; found = c.forget_users.new.found; unlooked = c.note_users.new.unlooked } in
     made_noted (state_of c.args.state.now) c.args.path.now c.in-Some.at c.args.findings.now new c.requires c.in-Some.ensures.1 c.in-Some.ensures.0
     (c.put_place.ensures ∙ ap (λ n. with_place c.in-Some.at n c.args.findings.now.made.items) (c.len.ensures ∙ c.args.state.now.made.ok.0)) refl h is stands

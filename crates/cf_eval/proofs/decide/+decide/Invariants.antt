@@ -1,5 +1,5 @@
 use Rattle.std.proofs.Common.{◌≡◌, ◌+◌, ◌*◌}
-use Rattle.cf_eval.specs.Deciding.{ground_of, open_of}
+use Rattle.cf_eval.specs.Deciding.{context_scope, open_of}
 use Rattle.cf_eval.proofs.Noting.{IsDeciding}
 use Rattle.cf_eval.proofs.decide.+decide.Given as goal
 
@@ -13,7 +13,7 @@ abbrev pub decreases-descend : goal.decreases-descend
 decreases-descend l = 3 * l.left
 
 abbrev pub decreases-decide-deciding : goal.decreases-decide-deciding
-decreases-decide-deciding l = open_of l.done l.ground.conds.now
+decreases-decide-deciding l = open_of l.done l.context.conds.now
 
 abbrev pub invariant-decide-deciding : goal.invariant-decide-deciding
-invariant-decide-deciding l = IsDeciding (ground_of l.ground) l.ground.conds.now l.initial.under.items l.initial.done l.done × (l.under.items ≡ l.initial.under.items)
+invariant-decide-deciding l = IsDeciding (context_scope l.context) l.context.conds.now l.initial.under.items l.initial.done l.done × (l.under.items ≡ l.initial.under.items)

@@ -1,6 +1,6 @@
 use Rattle.std.proofs.Common.{◌≡◌, IfOk, Option, ap, subst, sym}
 use Rattle.cf_desired.specs.declared.wanted.Wanted.{Wanted}
-use Rattle.cf_plan.specs.Done.{finding_by, finding_over}
+use Rattle.cf_plan.specs.Forward.{finding_by, finding_over}
 use Rattle.cf_plan.specs.Starts.{AreIntended, wants_by}
 use Rattle.cf_plan.proofs.Starting.{intended, told}
 use Rattle.cf_plan.proofs.forward.wants_at.Goals as goal

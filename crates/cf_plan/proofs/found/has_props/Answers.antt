@@ -1,6 +1,7 @@
 use Rattle.std.proofs.Common.{◌∙◌, ap, sym}
 use Rattle.std.specs.Option.{option_copied}
-use Rattle.cf_plan.specs.Done.{finding_of, finding_over}
+use Rattle.cf_plan.specs.Done.{finding_of}
+use Rattle.cf_plan.specs.Forward.{finding_over}
 use Rattle.cf_plan.proofs.Findings.{known_has}
 use Rattle.cf_plan.proofs.found.has_props.Goals as goal
 

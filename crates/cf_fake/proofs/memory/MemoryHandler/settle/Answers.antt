@@ -1,9 +1,11 @@
+use Rattle.cf_fake.proofs.Free.{noted_after}
 use Rattle.cf_fake.proofs.Keeps.{kept_after, same_after}
 use Rattle.cf_fake.proofs.memory.MemoryHandler.settle.Goals as goal
 
-pub invariant_of-self : goal.invariant_of-self
-invariant_of-self c = record {
+pub invariant_of-self-2 : goal.invariant_of-self-2
+invariant_of-self-2 c = record {
   named = c.args.self.now.named;
   kept = kept_after c.args.planned c.args.self.now.schema c.args.self.now.name c.args.self.now.settled.items c.keep.new.settled.items c.args.token c.args.request.now c.in_ok-settlement.settlement c.keep.result c.args.self.now.named c.ranges.token.fits c.args.self.now.kept c.requires.new c.requires.fits c.in_ok-settlement.ensures c.keep.ensures.settled c.keep.ensures.settled_before;
   same = same_after c.args.self.now.settled.items c.keep.new.settled.items c.args.self.now.live.items c.keep.new.live.items c.args.token c.args.request.now c.in_ok-settlement.settlement c.keep.result c.args.self.now.same c.keep.ensures.settled c.keep.ensures.live c.keep.ensures.settled_before c.keep.ensures.live_before;
+  marked = noted_after c.args.self.now.schema.create_only c.args.self.now.noted c.note_request.new.self c.args.request.now c.in_ok-settlement.settlement c.args.self.now.live.items c.keep.new.live.items c.keep.result c.args.self.now.marked c.in_ok-note_request.ensures.ok c.keep.ensures.live c.keep.ensures.live_before;
 }

@@ -1,6 +1,0 @@
-use Rattle.cf_effect.specs.Findings.{AreFindings}
-use Rattle.cf_effect.specs.State.{state_of}
-use Rattle.cf_effect.proofs.findings.find_more.Given as goal
-
-abbrev pub invariant-loop-at : goal.invariant-loop-at
-invariant-loop-at l = AreFindings (state_of l.state) l.findings
