@@ -67,7 +67,8 @@ abbrev pub recreation_of : Option Schema → List ℕ → Recreation
 recreation_of None name = recreation.Never
 recreation_of (Some g) name = recreation_by g name
 
--- A property whose value is Later has a Dynamic detail; one that differs, as a schema's properties do, a Static one.
+-- A property whose new value is not known yet has a Dynamic detail. Any other has a Static one where it differs: in its value, or since it
+-- stands on one side alone.
 abbrev pub static_if : Bool → Option Evaluation
 static_if does = if does then Some evaluation.Static else None
 

@@ -12,7 +12,7 @@ use Rattle.cf_tree.specs.declared.parts.Part.{Part}
 use Rattle.cf_tree.specs.declared.parts.Part.TheVariants.{Plain, Name}
 use Rattle.cf_eval.specs.Outcome.{Outcome, got, later, bad, fault, undecided, below, on_got, both, each, or_wrong, undeclared_at_fault}
 use Rattle.cf_eval.specs.Scope.{Scope, Beyond, open_to, closed_to}
-use Rattle.cf_eval.specs.Texts.{Found, known, text_of, members_in, index_of, wanted_text, wanted_list, wanted_index, as_text, as_list, within, most_bytes}
+use Rattle.cf_eval.specs.Texts.{Found, known, text_of, list_in, index_of, wanted_text, wanted_list, wanted_index, as_text, as_list, within, most_bytes}
 use Rattle.cf_eval.specs.Functions.{or_fault, output_found, id_of, attribute_found, resource_ref, pseudo_ref, setting_found, ref_found, attribute_in, get_att_found, cut_found, name_found, piece_found, put_together, outcomes, sub_found, join_found, split_at, split_found, nth, select_found, paired, under_second, under_key, value_in_mapping, find_found, if_found, imported, import_found, base64_found}
 use Rattle.cf_eval.specs.Value.{named, pairs_found, dict_found, blamed, form_found, node_found, forms_found, fields_found}
 use Rattle.cf_eval.specs.declared.fault.EvalWhy.{EvalWhy}
@@ -117,7 +117,7 @@ text_sure at (Some d) = or_wrong_sure at (text_of d)
 
 list_sure : (at : List ℕ) (o : Option Data) → IsSure (wanted_list at o)
 list_sure at None = tt
-list_sure at (Some d) = or_wrong_sure at (members_in d)
+list_sure at (Some d) = or_wrong_sure at (list_in d)
 
 index_sure : (at : List ℕ) (o : Option Data) → IsSure (wanted_index at o)
 index_sure at None = tt

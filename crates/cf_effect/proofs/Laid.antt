@@ -1,110 +1,13 @@
 -- Rows laid out one pass after another are those of a source's resources.
-use Rattle.std.proofs.Common.{◌≡◌, ℕ, zero, suc, ◌+◌, ◌<◌, ◌≤◌, ◌==◌, ◌&&◌, ◌||◌, Bool, true, false, not, List, [], ◌∷◌, ◌++◌, length, take, position, get_or, set, Option, Some, None, refl, ap, sym, ◌∙◌, subst, arith, cond, true≢false, inl, inr, ◌⊎◌}
-use Rattle.std.specs.Prelude.{is_some}
+use Rattle.std.proofs.Common.{◌≡◌, ℕ, zero, suc, ◌+◌, ◌<◌, ◌≤◌, ◌==◌, ◌&&◌, ◌||◌, Bool, true, false, not, List, [], ◌∷◌, ◌++◌, length, take, get_or, set, Option, Some, None, refl, ap, sym, ◌∙◌, subst, arith, inl, inr, ◌⊎◌}
 use Rattle.std.specs.List.{cons_option, filter_map}
-use Rattle.std.specs.Option.{option_or}
-use Rattle.std.specs.Str.{bytes_eq}
 use Rattle.std.specs.Global.{Vec}
 use Rattle.std.proofs.Math.Seq.{take-suc}
-use Rattle.std.proofs.lemmas.List.{append-nil, length-set, length-take}
+use Rattle.std.proofs.lemmas.List.{append-nil, length-set}
 use Rattle.std.proofs.lemmas.Bool.{cases_eq, cases_lt, eq-eqb, ne_eqb}
-use Rattle.std.proofs.lemmas.Slice.Eq.{bytes_eq-Decides}
-use Rattle.cf_tree.specs.Keys.{put, value_at}
-use Rattle.cf_desired.specs.declared.shape.Terms.{Terms}
-use Rattle.cf_desired.specs.declared.whole_plan.Right.{Right}
-use Rattle.cf_desired.proofs.Puts.{value_put}
 use Rattle.cf_effect.specs.declared.layout.Placed.{Placed}
-use Rattle.cf_effect.specs.Layout.{is_place}
-use Rattle.cf_effect.specs.declared.held.Held.{Held}
-use Rattle.cf_effect.specs.End.{is_right_at}
-use Rattle.cf_effect.specs.Words.{is_current_at}
-use Rattle.cf_effect.specs.Laying.{ArePlacesOf, AreUsers, HasPlaces, JoinsUsers, has_path, is_user, needs_in, put_current, put_place}
-use Rattle.cf_effect.proofs.Places.{position_last}
-
-nothing : {A : Type 0} (o : Option A) → is_some o ≡ false → o ≡ None
-nothing None h = refl
-nothing (Some a) h = absurd (true≢false h)
-
-or_nothing : {A : Type 0} (o : Option A) → option_or o None ≡ o
-or_nothing None = refl
-or_nothing (Some a) = refl
-
-or_something : {A : Type 0} (o p : Option A) → is_some o ≡ true → option_or o p ≡ o
-or_something None p h = absurd (true≢false (sym h))
-or_something (Some a) p h = refl
-
--- one place more
-module _ {A : Type 0} (test : List ℕ → A → Bool) (all : List A) (i : ℕ) (x : A) (within : i < length all) (is : x ≡ get_or all i x) where
-  abbrev before : List ℕ → Option ℕ
-  before q = position (test q) (take i all)
-
-  length_before : length (take i all) ≡ i
-  length_before = grind (arith, length-take {A = A})
-
-  one_more : (q : List ℕ) → position (test q) (take (suc i) all) ≡ option_or (before q) (cond (test q x) (Some i) None)
-  one_more q =
-      ap (position (test q)) (take-suc all i x within) ∙ position_last (test q) (take i all) (get_or all i x)
-      ∙ ap (λ (n : ℕ). option_or (before q) (cond (test q (get_or all i x)) (Some n) None)) length_before
-      ∙ ap (λ (y : A). option_or (before q) (cond (test q y) (Some i) None)) (sym is)
-
-  -- one that no path passes
-  passed_over : (old : List (List ℕ × ℕ)) → ((q : List ℕ) → test q x ≡ false) → ArePlacesOf test (take i all) old → ArePlacesOf test (take (suc i) all) old
-  passed_over old e h q = h q ∙ sym (one_more q ∙ ap (λ b. option_or (before q) (cond b (Some i) None)) (e q) ∙ or_nothing (before q))
-
-  module _ (key : List ℕ) (same : (q : List ℕ) → test q x ≡ bytes_eq q key) (old : List (List ℕ × ℕ)) (h : ArePlacesOf test (take i all) old) where
-    kept : is_some (value_at key old) ≡ true → (q : List ℕ) (c : Bool) → bytes_eq q key ≡ c → value_at q old ≡ option_or (before q) (cond c (Some i) None)
-    kept g q false e = h q ∙ sym (or_nothing (before q))
-    kept g q true e =
-        let some : is_some (before q) ≡ true = ap is_some (sym (h q)) ∙ ap (λ n. is_some (value_at n old)) ((bytes_eq-Decides q key).0 e) ∙ g in
-        h q ∙ sym (or_something (before q) (Some i) some)
-
-    new_there : is_some (value_at key old) ≡ false → (q : List ℕ) (c : Bool) → bytes_eq q key ≡ c → cond c (Some i) (value_at q old) ≡ option_or (before q) (cond c (Some i) None)
-    new_there g q false e = h q ∙ sym (or_nothing (before q))
-    new_there g q true e =
-        let none : before q ≡ None = nothing (before q) (ap is_some (sym (h q)) ∙ ap (λ n. is_some (value_at n old)) ((bytes_eq-Decides q key).0 e) ∙ g) in
-        sym (ap (λ o. option_or o (Some i)) none)
-
-    put_by : (b : Bool) → is_some (value_at key old) ≡ b → (q : List ℕ) → value_at q (cond b old (put key i old)) ≡ option_or (before q) (cond (bytes_eq q key) (Some i) None)
-    put_by true g q = kept g q (bytes_eq q key) refl
-    put_by false g q = value_put q key i old ∙ new_there g q (bytes_eq q key) refl
-
-    placed_so : ArePlacesOf test (take (suc i) all) (put_place old key i)
-    placed_so q =
-        put_by (is_some (value_at key old)) refl q ∙ ap (λ b. option_or (before q) (cond b (Some i) None)) (sym (same q)) ∙ sym (one_more q)
-
-  -- the same of what a function of the code left
-  placed_next : (old new now : List (List ℕ × ℕ)) → ArePlacesOf test (take (suc i) all) now → new ≡ now → ArePlacesOf test (take (i + 1) all) new
-  placed_next old new now h put =
-      let next : suc i ≡ i + 1 = omega arith in
-      subst (λ k. ArePlacesOf test (take k all) new) next (subst (λ ps. ArePlacesOf test (take (suc i) all) ps) (sym put) h)
-
-pub placed_more : (all : List (List ℕ × Terms)) (i : ℕ) (x : List ℕ × Terms) (old new : List (List ℕ × ℕ)) → i < length all → x ≡ get_or all i x
-    → HasPlaces (take i all) old → new ≡ put_place old x.0 i → HasPlaces (take (i + 1) all) new
-placed_more all i x old new within is h put =
-    placed_next has_path all i x within is old new (put_place old x.0 i) (placed_so has_path all i x within is x.0 (λ q. refl) old h) put
-
--- what is wanted at one path more
-pub right_more : (all : List Right) (i : ℕ) (x : Right) (old new : List (List ℕ × ℕ)) → i < length all → x ≡ get_or all i x
-    → ArePlacesOf is_right_at (take i all) old → new ≡ put_place old x.path i → ArePlacesOf is_right_at (take (i + 1) all) new
-right_more all i x old new within is h put =
-    placed_next is_right_at all i x within is old new (put_place old x.path i) (placed_so is_right_at all i x within is x.path (λ q. refl) old h) put
-
--- a resource that is superseded is passed over
-pub current_more : (all : List Held) (i : ℕ) (x : Held) (old new : List (List ℕ × ℕ)) → i < length all → x ≡ get_or all i x
-    → ArePlacesOf is_current_at (take i all) old → new ≡ put_current old x i → ArePlacesOf is_current_at (take (i + 1) all) new
-current_more all i x old new within is h put =
-    placed_next is_current_at all i x within is old new (put_current old x i) (by x.superseded refl) put where
-      and_not : (a b : Bool) → b ≡ true → (a && not b) ≡ false
-      and_not true b e = ap not e
-      and_not false b e = refl
-
-      and_so : (a b : Bool) → b ≡ false → (a && not b) ≡ a
-      and_so true b e = ap not e
-      and_so false b e = refl
-
-      by : (b : Bool) → x.superseded ≡ b → ArePlacesOf is_current_at (take (suc i) all) (cond b old (put_place old x.path i))
-      by true e = passed_over is_current_at all i x within is old (λ q. and_not (bytes_eq q x.path) x.superseded e) h
-      by false e = placed_so is_current_at all i x within is x.path (λ q. and_so (bytes_eq q x.path) x.superseded e) old h
+use Rattle.cf_effect.specs.Layout.{is_place, row_needs}
+use Rattle.cf_effect.specs.Laying.{AreUsers, JoinsUsers, is_user}
 
 -- users
 pub none_empty : (users : List (Vec ℕ)) (u : Vec ℕ) → u.items ≡ [] → ((at other : ℕ) → is_user other at users ≡ false)
@@ -196,20 +99,20 @@ joined_more xs i other y a b c l e g h =
     (subst (λ (ks : List ℕ). JoinsUsers ks other a c) (sym (take-suc xs i y l ∙ ap (λ z. take i xs ++ z ∷ []) (sym e))) (joined_last (take i xs) y other a b c g h))
 
 -- a row more is looked at
-needs_far : (rows : List Placed) (at k : ℕ) → k ≤ at → needs_in (take k rows) at ≡ []
+needs_far : (rows : List Placed) (at k : ℕ) → k ≤ at → row_needs (take k rows) at ≡ []
 needs_far rows zero zero l = refl
 needs_far rows (suc at) zero l = refl
 needs_far [] at (suc k) l = refl
 needs_far (r ∷ rows) zero (suc k) l = absurd (omega (arith, l))
 needs_far (r ∷ rows) (suc at) (suc k) l = needs_far rows at k (omega (arith, l))
 
-needs_near : (rows : List Placed) (at k : ℕ) → at < k → needs_in (take k rows) at ≡ needs_in rows at
+needs_near : (rows : List Placed) (at k : ℕ) → at < k → row_needs (take k rows) at ≡ row_needs rows at
 needs_near rows at zero l = absurd (omega (arith, l))
 needs_near [] at (suc k) l = refl
 needs_near (r ∷ rows) zero (suc k) l = refl
 needs_near (r ∷ rows) (suc at) (suc k) l = needs_near rows at k (omega (arith, l))
 
-needs_got : (rows : List Placed) (k : ℕ) (r : Placed) → k < length rows → r ≡ get_or rows k r → needs_in rows k ≡ r.needs.items
+needs_got : (rows : List Placed) (k : ℕ) (r : Placed) → k < length rows → r ≡ get_or rows k r → row_needs rows k ≡ r.needs.items
 needs_got [] k r l e = absurd (omega (arith, l))
 needs_got (x ∷ rows) zero r l e = ap (λ (y : Placed). y.needs.items) (sym e)
 needs_got (x ∷ rows) (suc k) r l e = needs_got rows k r (omega (arith, l)) e
@@ -217,7 +120,7 @@ needs_got (x ∷ rows) (suc k) r l e = needs_got rows k r (omega (arith, l)) e
 -- the users of the first so many rows
 pub record AreUsersTo (rows : List Placed) (k : ℕ) (users : List (Vec ℕ)) : Type 0 where
   pub count : length users ≡ length rows
-  pub told : (at other : ℕ) → at < length rows → is_user other at users ≡ is_place at (needs_in (take k rows) other)
+  pub told : (at other : ℕ) → at < length rows → is_user other at users ≡ is_place at (row_needs (take k rows) other)
 
 no_place : (at : ℕ) (ks : List ℕ) → ks ≡ [] → is_place at ks ≡ false
 no_place at ks e = ap (is_place at) e
@@ -232,17 +135,17 @@ module _ (rows : List Placed) (k : ℕ) (r : Placed) (l : k < length rows) (e : 
   and_false false = refl
 
   told_by : (at other : ℕ) → at < length rows → (other ≡ k) ⊎ (other ≡ k → ⊥)
-      → (is_place at (needs_in (take k rows) other) || (is_place at r.needs.items && other == k)) ≡ is_place at (needs_in (take (suc k) rows) other)
+      → (is_place at (row_needs (take k rows) other) || (is_place at r.needs.items && other == k)) ≡ is_place at (row_needs (take (suc k) rows) other)
   told_by at other m (inl same) =
-      ap (λ (c : Bool). c || (is_place at r.needs.items && other == k)) (no_place at (needs_in (take k rows) other) (needs_far rows other k (omega (arith, same))))
+      ap (λ (c : Bool). c || (is_place at r.needs.items && other == k)) (no_place at (row_needs (take k rows) other) (needs_far rows other k (omega (arith, same))))
       ∙ ap (λ (c : Bool). is_place at r.needs.items && c) (eq-eqb other k same) ∙ and_true (is_place at r.needs.items)
-      ∙ ap (is_place at) (sym (needs_near rows other (suc k) (omega (arith, same)) ∙ ap (needs_in rows) same ∙ needs_got rows k r l e))
+      ∙ ap (is_place at) (sym (needs_near rows other (suc k) (omega (arith, same)) ∙ ap (row_needs rows) same ∙ needs_got rows k r l e))
   told_by at other m (inr not) =
-      ap (λ (c : Bool). is_place at (needs_in (take k rows) other) || (is_place at r.needs.items && c)) (ne_eqb other k not)
-      ∙ ap (λ (c : Bool). is_place at (needs_in (take k rows) other) || c) (and_false (is_place at r.needs.items))
-      ∙ or_false (is_place at (needs_in (take k rows) other))
+      ap (λ (c : Bool). is_place at (row_needs (take k rows) other) || (is_place at r.needs.items && c)) (ne_eqb other k not)
+      ∙ ap (λ (c : Bool). is_place at (row_needs (take k rows) other) || c) (and_false (is_place at r.needs.items))
+      ∙ or_false (is_place at (row_needs (take k rows) other))
       ∙ ap (is_place at) (beside (cases_lt other k)) where
-        beside : (other < k) ⊎ (k ≤ other) → needs_in (take k rows) other ≡ needs_in (take (suc k) rows) other
+        beside : (other < k) ⊎ (k ≤ other) → row_needs (take k rows) other ≡ row_needs (take (suc k) rows) other
         beside (inl under) = needs_near rows other k under ∙ sym (needs_near rows other (suc k) (omega (arith, under)))
         beside (inr over) = needs_far rows other k over ∙ sym (needs_far rows other (suc k) (omega (arith, over, not)))
 
@@ -261,7 +164,7 @@ users_more rows k r a b l e g h =
     subst (λ j. AreUsersTo rows j b) next (users_next rows k r l e a b g h)
 
 pub users_first : (rows : List Placed) (users : List (Vec ℕ)) → length users ≡ length rows → ((at other : ℕ) → is_user other at users ≡ false) → AreUsersTo rows 0 users
-users_first rows users c h = record { count = c; told = λ at other m. h at other ∙ sym (no_place at (needs_in (take 0 rows) other) (needs_far rows other 0 (omega arith))) }
+users_first rows users c h = record { count = c; told = λ at other m. h at other ∙ sym (no_place at (row_needs (take 0 rows) other) (needs_far rows other 0 (omega arith))) }
 
 all_taken : (rs : List Placed) (n : ℕ) → length rs ≤ n → take n rs ≡ rs
 all_taken [] zero m = refl
@@ -272,7 +175,7 @@ all_taken (r ∷ rs) (suc n) m = ap (λ (xs : List Placed). r ∷ xs) (all_taken
 pub users_all : (rows : List Placed) (k : ℕ) (users : List (Vec ℕ)) → length rows ≤ k → AreUsersTo rows k users → AreUsers rows users
 users_all rows k users l h = record {
   count = h.count;
-  told = λ at other m. h.told at other m ∙ ap (λ (rs : List Placed). is_place at (needs_in rs other)) (all_taken rows k l);
+  told = λ at other m. h.told at other m ∙ ap (λ (rs : List Placed). is_place at (row_needs rs other)) (all_taken rows k l);
 }
 
 -- what is mapped of one more

@@ -6,6 +6,7 @@ pub mod Openings
 pub mod Spares
 pub mod Termed
 pub mod Places
+pub mod Indexed
 pub mod Laid
 pub mod Rowed
 pub mod Shown

@@ -28,7 +28,7 @@ use Rattle.cf_effect.specs.declared.layout.Placed.{Placed}
 use Rattle.cf_effect.specs.Begin.{seen_as_held}
 use Rattle.cf_effect.specs.Findings.{AreFindings, IsFound, place_among}
 use Rattle.cf_effect.specs.Following.{AreTaken, Forgets, IsPlaceIn, IsPlaceOf, KeepsPath, Notes, StandAt, nowhere, with_place}
-use Rattle.cf_effect.specs.Layout.{AreRows, IsLayoutOf, is_place, is_row_of, members_of, path_at, users_at}
+use Rattle.cf_effect.specs.Layout.{AreRows, IsLayoutOf, is_place, is_row_of, source_members, path_at, users_at}
 use Rattle.cf_effect.specs.Reply.{answered, changing, closing, made_of, making, replied, replying, status_made, terms_at, updating}
 use Rattle.cf_effect.specs.Calls.{is_restore}
 use Rattle.cf_effect.specs.Fold.{effect_at}
@@ -45,7 +45,7 @@ use Rattle.cf_effect.proofs.Shown.{shown_now}
 use Rattle.cf_effect.proofs.Sought.{any_at, apart_in, findings_stay, one_place, paths_in, props_stay, row_at, same_bytes}
 
 -- one path needs another just where its place is among those of its needs
-module _ (s : StackState) (l : Layout) (a : AreRows (members_of s) l) (path : List ℕ) (k : ℕ) (r : Placed) (there : slice_get l.rows.items k ≡ Some r) (is : r.path ≡ path) where
+module _ (s : StackState) (l : Layout) (a : AreRows (source_members s) l) (path : List ℕ) (k : ℕ) (r : Placed) (there : slice_get l.rows.items k ≡ Some r) (is : r.path ≡ path) where
   needs_place : (at : ℕ) → at ≤ length l.rows.items → (ks : List ℕ) → AllByRecursion (λ j. j < at) ks → is_among path (map (path_at l.rows.items) ks) ≡ true → is_place k ks ≡ true
   needs_place at m [] h g = absurd (true≢false (sym g))
   needs_place at m (j ∷ ks) h g = by (bytes_eq path (path_at l.rows.items j)) refl g (needs_place at m ks h.1) where
@@ -56,9 +56,9 @@ module _ (s : StackState) (l : Layout) (a : AreRows (members_of s) l) (path : Li
       no_row (x ∷ rows) zero u e = none-some x (sym e)
       no_row (x ∷ rows) (suc i) u e = no_row rows i (omega (arith, u)) e
     at_j (Some x) e d u =
-        let mine = row_at (members_of s) l a k r there in
-        let other = row_at (members_of s) l a j x e in
-        one_place (members_of s) k j mine.0 other.0 (apart_in s) mine.1 other.1 (sym mine.2 ∙ is ∙ (bytes_eq-Decides path x.path).0 d ∙ other.2)
+        let mine = row_at (source_members s) l a k r there in
+        let other = row_at (source_members s) l a j x e in
+        one_place (source_members s) k j mine.0 other.0 (apart_in s) mine.1 other.1 (sym mine.2 ∙ is ∙ (bytes_eq-Decides path x.path).0 d ∙ other.2)
 
     by : (b : Bool) → bytes_eq path (path_at l.rows.items j) ≡ b → (b || is_among path (map (path_at l.rows.items) ks)) ≡ true
         → (is_among path (map (path_at l.rows.items) ks) ≡ true → is_place k ks ≡ true) → (k == j || is_place k ks) ≡ true
@@ -69,20 +69,20 @@ module _ (s : StackState) (l : Layout) (a : AreRows (members_of s) l) (path : Li
       or_so false c e = e
 
   -- who is no user of a path doesn't need it
-  not_needed : (at : ℕ) (m : Member) → slice_get (members_of s) at ≡ Some m → is_place at (users_at l k) ≡ false → is_among path m.needs ≡ false
+  not_needed : (at : ℕ) (m : Member) → slice_get (source_members s) at ≡ Some m → is_place at (users_at l k) ≡ false → is_among path m.needs ≡ false
   not_needed at m h u = by (is_among path m.needs) refl where
     row_there : (o : Option Placed) → slice_get l.rows.items at ≡ o → (x : Placed) × (slice_get l.rows.items at ≡ Some x)
     row_there (Some x) e = (x, e)
     row_there None e =
         absurd (none-some m.path
         (sym (ap (option_map (λ (x : Placed). x.path)) e) ∙ sym (slice_get-map (λ (x : Placed). x.path) l.rows.items at) ∙ ap (λ (ps : List (List ℕ)). slice_get ps at) a.paths
-        ∙ slice_get-map (λ (n : Member). n.path) (members_of s) at ∙ ap (option_map (λ (n : Member). n.path)) h))
+        ∙ slice_get-map (λ (n : Member). n.path) (source_members s) at ∙ ap (option_map (λ (n : Member). n.path)) h))
 
     by : (b : Bool) → is_among path m.needs ≡ b → b ≡ false
     by false e = refl
     by true e =
         let row = row_there (slice_get l.rows.items at) refl in
-        let it = row_at (members_of s) l a at row.0 row.1 in
+        let it = row_at (source_members s) l a at row.0 row.1 in
         let same : it.0 ≡ m = same_Some it.0 m (sym it.1 ∙ h) in
         let within = slice_get_within l.rows.items at row.0 row.1 in
         let so : is_place k row.0.needs.items ≡ true =
@@ -161,7 +161,7 @@ put_past (x ∷ os) zero n l = absurd (omega (arith, l))
 put_past (x ∷ os) (suc k) n l = ap (λ qs. x ∷ qs) (put_past os k n (omega (arith, l)))
 
 -- what is taken off of the users of a path
-pub forgotten : (s : StackState) (l : Layout) (path : List ℕ) (k : ℕ) (old new : List (Option Found)) → AreRows (members_of s) l → value_at path l.places ≡ Some k
+pub forgotten : (s : StackState) (l : Layout) (path : List ℕ) (k : ℕ) (old new : List (Option Found)) → AreRows (source_members s) l → value_at path l.places ≡ Some k
     → AreTaken (users_at l k) old new → Forgets s path old new
 forgotten s l path k old new a place taken =
     let row = passes_at (is_row_of path) l.rows.items k (sym (a.places path) ∙ place) in
@@ -172,10 +172,10 @@ forgotten s l path k old new a place taken =
     }
 
 -- a member stands where a path is placed
-pub member_there : (s : StackState) (l : Layout) (path : List ℕ) (k : ℕ) → AreRows (members_of s) l → value_at path l.places ≡ Some k → IsPlaceOf s path k
+pub member_there : (s : StackState) (l : Layout) (path : List ℕ) (k : ℕ) → AreRows (source_members s) l → value_at path l.places ≡ Some k → IsPlaceOf s path k
 member_there s l path k a place =
     let row = passes_at (is_row_of path) l.rows.items k (sym (a.places path) ∙ place) in
-    let it = row_at (members_of s) l a k row.0 row.1 in
+    let it = row_at (source_members s) l a k row.0 row.1 in
     (it.0, it.1, sym it.2 ∙ sym ((bytes_eq-Decides path row.0.path).0 row.2))
 
 -- what was found stays so, but for the users of a path at which alone another resource is shown
@@ -190,23 +190,23 @@ else_path path ns q n h = by (bytes_eq q path) refl where
   by false e = refl
   by true e = absurd (true≢false (sym h ∙ ap (λ p. is_among p ns) ((bytes_eq-Decides q path).0 e) ∙ n))
 
-members_stay : (s t : StackState) → t.going ≡ s.going → t.before ≡ s.before → members_of t ≡ members_of s
+members_stay : (s t : StackState) → t.going ≡ s.going → t.before ≡ s.before → source_members t ≡ source_members s
 members_stay s t g b = rw (g, b) refl
 
 pub follows : (path : List ℕ) (s t : StackState) (old new : Findings) → AreFindings s old → Forgets s path old.found.items new.found.items → ShowsElse path s t
-    → new.made.items ≡ map (λ m. place_among m.path t.made) (members_of s) → new.held.items ≡ map (λ m. place_among m.path t.held) (members_of s) → AreFindings t new
+    → new.made.items ≡ map (λ m. place_among m.path t.made) (source_members s) → new.held.items ≡ map (λ m. place_among m.path t.held) (source_members s) → AreFindings t new
 follows path s t old new a f e made held = record {
   made = made ∙ ap (map (λ m. place_among m.path t.made)) (sym same);
   held = held ∙ ap (map (λ m. place_among m.path t.held)) (sym same);
   count = f.count ∙ a.count ∙ ap length (sym same);
   found = found_else;
 } where
-  same : members_of t ≡ members_of s
+  same : source_members t ≡ source_members s
   same = members_stay s t e.going e.before
 
-  found_else : (at : ℕ) (m : Member) (x : Found) → slice_get (members_of t) at ≡ Some m → slice_get new.found.items at ≡ Some (Some x) → IsFound t m.path x
+  found_else : (at : ℕ) (m : Member) (x : Found) → slice_get (source_members t) at ≡ Some m → slice_get new.found.items at ≡ Some (Some x) → IsFound t m.path x
   found_else at m x h k =
-      let there : slice_get (members_of s) at ≡ Some m = ap (λ ms. slice_get ms at) (sym same) ∙ h in
+      let there : slice_get (source_members s) at ≡ Some m = ap (λ ms. slice_get ms at) (sym same) ∙ h in
       let was = a.found at m x there (f.kept at x k) in
       let not_among = f.other at m x there k in
       record {
@@ -300,7 +300,7 @@ pub made_noted : (s : StackState) (path : List ℕ) (k : ℕ) (old new : Finding
     → (h : Held) → h.path ≡ path → h.superseded ≡ false → AreFindings (making h s) new
 made_noted s path k old new a it f made held h is stands =
     follows h.path s (making h s) old new a (subst (λ p. Forgets s p old.found.items new.found.items) (sym is) f) (shows_made s h stands)
-    (made ∙ ap (with_place k (length s.made)) a.made ∙ made_there s h stands (members_of s) k it.0 (apart_in s) it.1 (it.2 ∙ sym is))
+    (made ∙ ap (with_place k (length s.made)) a.made ∙ made_there s h stands (source_members s) k it.0 (apart_in s) it.1 (it.2 ∙ sym is))
     (held ∙ a.held)
 
 -- where the resources of a list stand
@@ -360,11 +360,11 @@ more_stand l hs i h old new within is notes so =
     subst (λ xs. StandAt l xs new) (sym more) (notes (take i hs) count so)
 
 pub all_standing : {E : Type 0} (s : StackState) (l : Layout) (hs : List Held) (res : Result (Vec (Option ℕ)) E) → IsLayoutOf s (Some l)
-    → IfOk res (λ places. StandAt l hs places.items) → IfOk res (λ places. places.items ≡ map (λ m. place_among m.path hs) (members_of s))
-all_standing s l hs (Ok places) a so = so (members_of s) a (apart_in s)
+    → IfOk res (λ places. StandAt l hs places.items) → IfOk res (λ places. places.items ≡ map (λ m. place_among m.path hs) (source_members s))
+all_standing s l hs (Ok places) a so = so (source_members s) a (apart_in s)
 all_standing s l hs (Err e) a so = tt
 
-pub no_paths : (s : StackState) (hs : List Held) (places : List (Option ℕ)) → IsLayoutOf s None → places ≡ [] → places ≡ map (λ m. place_among m.path hs) (members_of s)
+pub no_paths : (s : StackState) (hs : List Held) (places : List (Option ℕ)) → IsLayoutOf s None → places ≡ [] → places ≡ map (λ m. place_among m.path hs) (source_members s)
 no_paths s hs places none e = e ∙ ap (map (λ m. place_among m.path hs)) (sym none)
 
 -- the first resource of an id is changed, which stays that of its path
@@ -399,13 +399,13 @@ module _ (change : Held → Held) (keeps : KeepsPath change) where
     changed_held e =
         follows x.path s (record s { held = where_physical id change s.held }) old new a f
         (record { going = refl; before = refl; shown = λ q g. ap (λ o. option_map seen_as_held (option_or (current_at q s.made) o)) (changed_else (has_physical id) q s.held x e g) })
-        (made ∙ a.made) (held ∙ a.held ∙ all_same (has_physical id) s.held (members_of s))
+        (made ∙ a.made) (held ∙ a.held ∙ all_same (has_physical id) s.held (source_members s))
 
     changed_made : find (has_physical id) s.made ≡ Some x → AreFindings (record s { made = where_physical id change s.made }) new
     changed_made e =
         follows x.path s (record s { made = where_physical id change s.made }) old new a f
         (record { going = refl; before = refl; shown = λ q g. ap (λ o. option_map seen_as_held (option_or o (current_at q s.held))) (changed_else (has_physical id) q s.made x e g) })
-        (made ∙ a.made ∙ all_same (has_physical id) s.made (members_of s)) (held ∙ a.held)
+        (made ∙ a.made ∙ all_same (has_physical id) s.made (source_members s)) (held ∙ a.held)
 
     changed_first : option_or (find (has_physical id) s.held) (find (has_physical id) s.made) ≡ Some x → AreFindings (changing id change s) new
     changed_first e = by (list_any (has_physical id) s.held) (find (has_physical id) s.held) refl (any_found (has_physical id) s.held) e where

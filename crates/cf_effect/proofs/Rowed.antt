@@ -22,8 +22,8 @@ use Rattle.cf_desired.proofs.ComeFirst.{needs_first}
 use Rattle.cf_effect.specs.Outset.{IsLaidBy}
 use Rattle.cf_effect.specs.declared.layout.Layout.{Layout}
 use Rattle.cf_effect.specs.declared.layout.Placed.{Placed}
-use Rattle.cf_effect.specs.Layout.{AreRows, is_place, needs_at, path_at, users_at}
-use Rattle.cf_effect.specs.Laying.{AreUsers, HasPlaces, has_path, laid_row, row_told}
+use Rattle.cf_effect.specs.Layout.{AreRows, is_place, path_at, row_needs, users_at}
+use Rattle.cf_effect.specs.Laying.{AreUsers, HasPlaces, are_terms_of, laid_row, row_told}
 use Rattle.cf_effect.proofs.Closed.{any_found}
 use Rattle.cf_effect.proofs.Places.{is_there, passes_at, position_mapped, position_within}
 
@@ -90,14 +90,14 @@ module _ (l : Layout) (all : List (List ℕ × Terms)) (stands : HasPlaces all l
       ∙ mapped (λ (t : List ℕ × List ℕ × List ℕ). map (path_at l.rows.items) t.2) (laid_row l.places) all
 
   -- a path that is told of has a place, where it stands
-  has_place : (xs : List (List ℕ × Terms)) (q : List ℕ) → is_among q (map first_of xs) ≡ is_some (position (has_path q) xs)
+  has_place : (xs : List (List ℕ × Terms)) (q : List ℕ) → is_among q (map first_of xs) ≡ is_some (position (are_terms_of q) xs)
   has_place xs q =
       any_found (λ n. bytes_eq q n) (map first_of xs) ∙ sym (is_there (λ n. bytes_eq q n) (map first_of xs))
       ∙ ap is_some (sym (position_mapped first_of (λ n. bytes_eq q n) xs))
 
   stands_at : (q : List ℕ) (k : ℕ) → V q ≡ Some k → path_at l.rows.items k ≡ q
   stands_at q k h =
-      let it = passes_at (has_path q) all k (sym (stands q) ∙ h) in
+      let it = passes_at (are_terms_of q) all k (sym (stands q) ∙ h) in
       path_as l.rows.items k
       ∙ ap (λ (ps : List (List ℕ)). option_map_or (λ (p : List ℕ). p) (slice_get ps k) []) all_paths
       ∙ ap (λ (o : Option (List ℕ)). option_map_or (λ (p : List ℕ). p) o []) (slice_get-map first_of all k ∙ ap (option_map first_of) it.1)
@@ -117,10 +117,10 @@ module _ (l : Layout) (all : List (List ℕ × Terms)) (stands : HasPlaces all l
   all_below at (q ∷ qs) h =
       let both = and_parts (is_among q (map first_of (take at all))) (list_all (λ p. is_among p (map first_of (take at all))) qs) h in
       by (V q) refl (sym (has_place (take at all) q) ∙ both.0) (all_below at qs both.1) where
-        by : (o : Option ℕ) → V q ≡ o → is_some (position (has_path q) (take at all)) ≡ true → AllByRecursion (λ k. k < at) (filter_map V qs)
+        by : (o : Option ℕ) → V q ≡ o → is_some (position (are_terms_of q) (take at all)) ≡ true → AllByRecursion (λ k. k < at) (filter_map V qs)
             → AllByRecursion (λ k. k < at) (cons_option o (filter_map V qs))
         by None e s g = g
-        by (Some k) e s g = (position_within (has_path q) all at k s (sym (stands q) ∙ e), g)
+        by (Some k) e s g = (position_within (are_terms_of q) all at k s (sym (stands q) ∙ e), g)
 
   module _ (ms : List Member) (is : all ≡ map pathed ms) (first : ComeFirst [] ms) where
     member_paths : (xs : List Member) → map first_of (map pathed xs) ≡ map (λ m. m.path) xs
@@ -154,7 +154,7 @@ module _ (l : Layout) (all : List (List ℕ × Terms)) (stands : HasPlaces all l
         ∙ mapped (λ p. map (path_at l.rows.items) (filter_map V p.1.needs)) pathed ms
         ∙ needs_along [] ms first (λ q g. ap (is_among q) whole_paths ∙ g)
 
-    needs_as : (at : ℕ) → needs_at l at ≡ option_map_or (λ m. filter_map V m.needs) (slice_get ms at) []
+    needs_as : (at : ℕ) → row_needs l.rows.items at ≡ option_map_or (λ m. filter_map V m.needs) (slice_get ms at) []
     needs_as at =
         told_of (slice_get l.rows.items at)
         ∙ ap (λ o. option_map_or (λ (t : List ℕ × List ℕ × List ℕ). t.2) o [])
@@ -169,7 +169,7 @@ module _ (l : Layout) (all : List (List ℕ × Terms)) (stands : HasPlaces all l
           of_member None = refl
           of_member (Some m) = refl
 
-    whole_earlier : (at : ℕ) → AllByRecursion (λ k. k < at) (needs_at l at)
+    whole_earlier : (at : ℕ) → AllByRecursion (λ k. k < at) (row_needs l.rows.items at)
     whole_earlier at = subst (AllByRecursion (λ k. k < at)) (sym (needs_as at)) (by (slice_get ms at) refl) where
       by : (o : Option Member) → slice_get ms at ≡ o → AllByRecursion (λ k. k < at) (option_map_or (λ m. filter_map V m.needs) o [])
       by None e = tt
@@ -180,16 +180,16 @@ module _ (l : Layout) (all : List (List ℕ × Terms)) (stands : HasPlaces all l
       not_below at other [] m h = refl
       not_below at other (k ∷ ks) m h = ap (λ b. b || is_place at ks) (ne_eqb at k (λ e. omega (arith, e, h.0, m))) ∙ not_below at other ks m h.1
 
-      far : (at other : ℕ) → length l.rows.items ≤ at → is_place at (needs_at l other) ≡ false
+      far : (at other : ℕ) → length l.rows.items ≤ at → is_place at (row_needs l.rows.items other) ≡ false
       far at other m = by (slice_get l.rows.items other) refl (whole_earlier other) where
         by : (o : Option Placed) → slice_get l.rows.items other ≡ o → AllByRecursion (λ k. k < other) (option_map_or (λ r. r.needs.items) o [])
             → is_place at (option_map_or (λ r. r.needs.items) o []) ≡ false
         by None e h = refl
         by (Some r) e h = let under = slice_get_within l.rows.items other r e in not_below at other r.needs.items (omega arith) h
 
-      whole_users : (at other : ℕ) → is_place other (users_at l at) ≡ is_place at (needs_at l other)
+      whole_users : (at other : ℕ) → is_place other (users_at l at) ≡ is_place at (row_needs l.rows.items other)
       whole_users at other = by (cases_lt at (length l.rows.items)) where
-        by : (at < length l.rows.items) ⊎ (length l.rows.items ≤ at) → is_place other (users_at l at) ≡ is_place at (needs_at l other)
+        by : (at < length l.rows.items) ⊎ (length l.rows.items ≤ at) → is_place other (users_at l at) ≡ is_place at (row_needs l.rows.items other)
         by (inl under) = us.told at other under
         by (inr over) =
             ap (λ o. is_place other (option_map_or (λ us. us.items) o [])) (slice_get_past l.users.items at (omega (arith, us.count, over)))

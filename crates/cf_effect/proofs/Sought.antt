@@ -33,7 +33,7 @@ use Rattle.cf_effect.specs.declared.state.State.{State}
 use Rattle.cf_effect.specs.Outset.{Outset}
 use Rattle.cf_effect.specs.State.{before_in, source_in, state_of}
 use Rattle.cf_effect.specs.Following.{IsFoundBy, IsNothing, IsPlaceIn, kept_at, resource_in, seen_of_places, stands_at}
-use Rattle.cf_effect.specs.Layout.{AreRows, is_row_of, members_of, path_at}
+use Rattle.cf_effect.specs.Layout.{AreRows, is_row_of, source_members, path_at}
 use Rattle.cf_effect.specs.Words.{current_at, is_current_at, resource_at}
 use Rattle.cf_effect.specs.World.{StackState}
 use Rattle.cf_effect.proofs.Closed.{any_found}
@@ -82,7 +82,7 @@ first_named (x ∷ ms) (suc at) m d h = by (bytes_eq m.path x.path) refl (first_
   by false e g = g
 
 -- the paths of a stack's source differ
-pub apart_in : (s : StackState) → all_differ bytes_eq (paths_in (members_of s)) ≡ true
+pub apart_in : (s : StackState) → all_differ bytes_eq (paths_in (source_members s)) ≡ true
 apart_in s = by s.going where
   by : (o : Option Source) → all_differ bytes_eq (paths_in (option_map_or (λ source. resources_in (shape_of source (seen_in s.before))) o [])) ≡ true
   by None = refl
@@ -99,7 +99,7 @@ props_rest source before a b at m h g =
     needs_suffice source before a b m.path m (first_named (resources_in (shape_of source before)) at m (members_apart source before) h) (agree_at m.needs a b g)
 
 -- what two stacks of one source show alike of a path's needs
-pub props_stay : (s t : StackState) (at : ℕ) (m : Member) → t.going ≡ s.going → t.before ≡ s.before → slice_get (members_of s) at ≡ Some m
+pub props_stay : (s t : StackState) (at : ℕ) (m : Member) → t.going ≡ s.going → t.before ≡ s.before → slice_get (source_members s) at ≡ Some m
     → ((q : List ℕ) → is_among q m.needs ≡ true → value_at q (seen_now t) ≡ value_at q (seen_now s)) → props_now t m.path ≡ props_now s m.path
 props_stay s t at m going before h g =
     ap (option_and_then (λ source. props_at source (shape_of source (seen_in t.before)) (seen_now t) m.path)) going
@@ -137,24 +137,24 @@ row_at ms l a at r h = by (slice_get ms at) refl where
   )
 
 -- the resource at a place is that of the path there
-resource_by : (s : StackState) (l : Layout) (a : AreRows (members_of s) l) (k : ℕ) → k < length l.rows.items → resource_in s k ≡ resource_at (path_at l.rows.items k) s
-resource_by s l a k h = by (slice_get (members_of s) k) refl where
-  paths : option_map (λ (x : Placed). x.path) (slice_get l.rows.items k) ≡ option_map (λ (m : Member). m.path) (slice_get (members_of s) k)
+resource_by : (s : StackState) (l : Layout) (a : AreRows (source_members s) l) (k : ℕ) → k < length l.rows.items → resource_in s k ≡ resource_at (path_at l.rows.items k) s
+resource_by s l a k h = by (slice_get (source_members s) k) refl where
+  paths : option_map (λ (x : Placed). x.path) (slice_get l.rows.items k) ≡ option_map (λ (m : Member). m.path) (slice_get (source_members s) k)
   paths =
       sym (slice_get-map (λ (x : Placed). x.path) l.rows.items k) ∙ ap (λ (ps : List (List ℕ)). slice_get ps k) a.paths
-      ∙ slice_get-map (λ (m : Member). m.path) (members_of s) k
+      ∙ slice_get-map (λ (m : Member). m.path) (source_members s) k
 
   or_blank : (o : Option Placed) → option_map_or (λ (x : Placed). x.path) o [] ≡ option_map_or (λ (p : List ℕ). p) (option_map (λ (x : Placed). x.path) o) []
   or_blank None = refl
   or_blank (Some r) = refl
 
-  same_count : length l.rows.items ≡ length (members_of s)
-  same_count = sym (length-map l.rows.items (λ (x : Placed). x.path)) ∙ ap length a.paths ∙ length-map (members_of s) (λ (m : Member). m.path)
+  same_count : length l.rows.items ≡ length (source_members s)
+  same_count = sym (length-map l.rows.items (λ (x : Placed). x.path)) ∙ ap length a.paths ∙ length-map (source_members s) (λ (m : Member). m.path)
 
-  by : (o : Option Member) → slice_get (members_of s) k ≡ o → option_and_then (λ m. resource_at m.path s) o ≡ resource_at (path_at l.rows.items k) s
-  by None e = absurd (absent (cases_lt k (length (members_of s)))) where
-    absent : (k < length (members_of s)) ⊎ (length (members_of s) ≤ k) → ⊥
-    absent (inl under) = not_none (slice_get (members_of s) k) e (there (members_of s) k under) where
+  by : (o : Option Member) → slice_get (source_members s) k ≡ o → option_and_then (λ m. resource_at m.path s) o ≡ resource_at (path_at l.rows.items k) s
+  by None e = absurd (absent (cases_lt k (length (source_members s)))) where
+    absent : (k < length (source_members s)) ⊎ (length (source_members s) ≤ k) → ⊥
+    absent (inl under) = not_none (slice_get (source_members s) k) e (there (source_members s) k under) where
       not_none : (o : Option Member) → o ≡ None → is_some o ≡ true → ⊥
       not_none o n t = true≢false (sym t ∙ ap is_some n)
 
@@ -167,7 +167,7 @@ resource_by s l a k h = by (slice_get (members_of s) k) refl where
       ap (λ p. resource_at p s)
       (sym (or_blank (slice_get l.rows.items k) ∙ ap (λ o. option_map_or (λ (p : List ℕ). p) o []) (paths ∙ ap (option_map (λ (x : Member). x.path)) e)))
 
-resources_by : (s : StackState) (l : Layout) (a : AreRows (members_of s) l) (at : ℕ) → at ≤ length l.rows.items → (ks : List ℕ) → AllByRecursion (λ k. k < at) ks
+resources_by : (s : StackState) (l : Layout) (a : AreRows (source_members s) l) (at : ℕ) → at ≤ length l.rows.items → (ks : List ℕ) → AllByRecursion (λ k. k < at) ks
     → filter_map (resource_in s) ks ≡ filter_map (λ p. resource_at p s) (map (path_at l.rows.items) ks)
 resources_by s l a at m [] h = refl
 resources_by s l a at m (k ∷ ks) h =
@@ -175,11 +175,11 @@ resources_by s l a at m (k ∷ ks) h =
     ∙ ap (cons_option (resource_at (path_at l.rows.items k) s)) (resources_by s l a at m ks h.1)
 
 -- what a row's properties come to over the resources of what it needs
-pub row_found : (s : StackState) (source : Source) (l : Layout) (at : ℕ) (r : Placed) → s.going ≡ Some source → AreRows (members_of s) l → slice_get l.rows.items at ≡ Some r
-    → (m : Member) → slice_get (members_of s) at ≡ Some m
+pub row_found : (s : StackState) (source : Source) (l : Layout) (at : ℕ) (r : Placed) → s.going ≡ Some source → AreRows (source_members s) l → slice_get l.rows.items at ≡ Some r
+    → (m : Member) → slice_get (source_members s) at ≡ Some m
     → props_at source (shape_of source (seen_in s.before)) (seen_of_places s r.needs.items) r.path ≡ props_now s m.path
 row_found s source l at r going a h m is =
-    let it = row_at (members_of s) l a at r h in
+    let it = row_at (source_members s) l a at r h in
     let same : it.0 ≡ m = same_Some it.0 m (sym it.1 ∙ is) in
     let needs : map (path_at l.rows.items) r.needs.items ≡ m.needs = it.3 ∙ ap (λ (x : Member). x.needs) same in
     let within = slice_get_within l.rows.items at r h in
@@ -200,12 +200,12 @@ pub resource_there : (s : StackState) (f : Findings) → AreFindings s f → (at
     → option_or (option_and_then (slice_get s.made) (kept_at f.made.items at)) (option_and_then (slice_get s.held) (kept_at f.held.items at)) ≡ resource_in s at
 resource_there s f a at =
     ap (λ os. option_or (option_and_then (slice_get s.made) (kept_at os at)) (option_and_then (slice_get s.held) (kept_at f.held.items at))) a.made
-    ∙ ap (λ os. option_or (option_and_then (slice_get s.made) (kept_at (map (λ m. place_among m.path s.made) (members_of s)) at)) (option_and_then (slice_get s.held) (kept_at os at))) a.held
-    ∙ ap (λ o. option_or (option_and_then (slice_get s.made) (option_and_then no_place o)) (option_and_then (slice_get s.held) (kept_at (map (λ m. place_among m.path s.held) (members_of s)) at)))
-    (slice_get-map (λ m. place_among m.path s.made) (members_of s) at)
-    ∙ ap (λ o. option_or (option_and_then (slice_get s.made) (option_and_then no_place (option_map (λ m. place_among m.path s.made) (slice_get (members_of s) at)))) (option_and_then (slice_get s.held) (option_and_then no_place o)))
-    (slice_get-map (λ m. place_among m.path s.held) (members_of s) at)
-    ∙ by (slice_get (members_of s) at) where
+    ∙ ap (λ os. option_or (option_and_then (slice_get s.made) (kept_at (map (λ m. place_among m.path s.made) (source_members s)) at)) (option_and_then (slice_get s.held) (kept_at os at))) a.held
+    ∙ ap (λ o. option_or (option_and_then (slice_get s.made) (option_and_then no_place o)) (option_and_then (slice_get s.held) (kept_at (map (λ m. place_among m.path s.held) (source_members s)) at)))
+    (slice_get-map (λ m. place_among m.path s.made) (source_members s) at)
+    ∙ ap (λ o. option_or (option_and_then (slice_get s.made) (option_and_then no_place (option_map (λ m. place_among m.path s.made) (slice_get (source_members s) at)))) (option_and_then (slice_get s.held) (option_and_then no_place o)))
+    (slice_get-map (λ m. place_among m.path s.held) (source_members s) at)
+    ∙ by (slice_get (source_members s) at) where
       by : (o : Option Member)
           → option_or (option_and_then (slice_get s.made) (option_and_then no_place (option_map (λ m. place_among m.path s.made) o)))
           (option_and_then (slice_get s.held) (option_and_then no_place (option_map (λ m. place_among m.path s.held) o)))
@@ -224,15 +224,15 @@ set_read (z ∷ xs) (suc i) zero x y h = inr h
 set_read (z ∷ xs) (suc i) (suc j) x y h = elim (set_read xs i j x y h) [ inl e ↦ inl (ap suc e.0, e.1) | inr e ↦ inr e ]
 
 pub found_more : (s : StackState) (f g : Findings) (at : ℕ) (e : Found) → AreFindings s f → g.made ≡ f.made → g.held ≡ f.held → g.found.items ≡ set f.found.items at (Some e)
-    → ((m : Member) → slice_get (members_of s) at ≡ Some m → IsFound s m.path e) → AreFindings s g
+    → ((m : Member) → slice_get (source_members s) at ≡ Some m → IsFound s m.path e) → AreFindings s g
 found_more s f g at e a made held found is = record {
   made = ap (λ v. v.items) made ∙ a.made;
   held = ap (λ v. v.items) held ∙ a.held;
   count = ap length found ∙ length-set f.found.items at (Some e) ∙ a.count;
   found = λ j m x h k. by j m x h (set_read f.found.items at j (Some x) (Some e) (ap (λ xs. slice_get xs j) (sym found) ∙ k));
 } where
-  by : (j : ℕ) (m : Member) (x : Found) → slice_get (members_of s) j ≡ Some m → ((j ≡ at) × (Some e ≡ Some x)) ⊎ (slice_get f.found.items j ≡ Some (Some x)) → IsFound s m.path x
-  by j m x h (inl both) = subst (λ y. IsFound s m.path y) (same_Some e x both.1) (is m (ap (λ k. slice_get (members_of s) k) (sym both.0) ∙ h))
+  by : (j : ℕ) (m : Member) (x : Found) → slice_get (source_members s) j ≡ Some m → ((j ≡ at) × (Some e ≡ Some x)) ⊎ (slice_get f.found.items j ≡ Some (Some x)) → IsFound s m.path x
+  by j m x h (inl both) = subst (λ y. IsFound s m.path y) (same_Some e x both.1) (is m (ap (λ k. slice_get (source_members s) k) (sym both.0) ∙ h))
   by j m x h (inr k) = a.found j m x h k
 
 pub kept_same : (s : StackState) (f g : Findings) → AreFindings s f → g.made ≡ f.made → g.held ≡ f.held → g.found ≡ f.found → AreFindings s g
@@ -258,12 +258,12 @@ of_paths : (hs : List Held) (ms : List Member) → map (λ p. place_among p hs) 
 of_paths hs [] = refl
 of_paths hs (m ∷ ms) = ap (λ os. place_among m.path hs ∷ os) (of_paths hs ms)
 
-pub findings_first : (s : StackState) (f : Findings) → f.made.items ≡ map (λ m. place_among m.path s.made) (members_of s)
-    → f.held.items ≡ map (λ m. place_among m.path s.held) (members_of s) → length f.found.items ≡ length f.made.items → IsNothing f.found.items → AreFindings s f
+pub findings_first : (s : StackState) (f : Findings) → f.made.items ≡ map (λ m. place_among m.path s.made) (source_members s)
+    → f.held.items ≡ map (λ m. place_among m.path s.held) (source_members s) → length f.found.items ≡ length f.made.items → IsNothing f.found.items → AreFindings s f
 findings_first s f made held count nothing = record {
   made = made;
   held = held;
-  count = count ∙ ap length made ∙ length-map (members_of s) (λ m. place_among m.path s.made);
+  count = count ∙ ap length made ∙ length-map (source_members s) (λ m. place_among m.path s.made);
   found = λ at m e h k. absurd (nothing at e k);
 }
 
@@ -292,12 +292,12 @@ near_placed l path near so is t = λ ms a. by ms a (slice_get l.rows.items near)
 -- findings rest on what is made, held, was held before and is gone by
 pub findings_stay : (s t : StackState) (f : Findings) → t.made ≡ s.made → t.held ≡ s.held → t.before ≡ s.before → t.going ≡ s.going → AreFindings s f → AreFindings t f
 findings_stay s t f made held before going a =
-    let members : members_of t ≡ members_of s =
+    let members : source_members t ≡ source_members s =
     ap (λ o. option_map_or (λ source. resources_in (shape_of source (seen_in t.before))) o []) going
     ∙ ap (λ (hs : List Held). option_map_or (λ source. resources_in (shape_of source (seen_in hs))) s.going []) before in
     record {
-      made = a.made ∙ ap (λ (hs : List Held). map (λ m. place_among m.path hs) (members_of s)) (sym made) ∙ ap (map (λ m. place_among m.path t.made)) (sym members);
-      held = a.held ∙ ap (λ (hs : List Held). map (λ m. place_among m.path hs) (members_of s)) (sym held) ∙ ap (map (λ m. place_among m.path t.held)) (sym members);
+      made = a.made ∙ ap (λ (hs : List Held). map (λ m. place_among m.path hs) (source_members s)) (sym made) ∙ ap (map (λ m. place_among m.path t.made)) (sym members);
+      held = a.held ∙ ap (λ (hs : List Held). map (λ m. place_among m.path hs) (source_members s)) (sym held) ∙ ap (map (λ m. place_among m.path t.held)) (sym members);
       count = a.count ∙ ap length (sym members);
       found = λ at m e h k. found_stays s t made held before going m e (a.found at m e (ap (λ ms. slice_get ms at) (sym members) ∙ h) k);
     } where
@@ -313,10 +313,10 @@ findings_stay s t f made held before going a =
       }
 
 -- the layout is that of the operation's source
-pub layout_there : (x : State) (o : Outset) (l : Layout) → x.outset ≡ Some o → AreRows (resources_in (shape_of o.source (seen_in o.before))) l → AreRows (members_of (state_of x)) l
+pub layout_there : (x : State) (o : Outset) (l : Layout) → x.outset ≡ Some o → AreRows (resources_in (shape_of o.source (seen_in o.before))) l → AreRows (source_members (state_of x)) l
 layout_there x o l h a = subst (λ (y : Option Outset). AreRows (option_map_or (λ source. resources_in (shape_of source (seen_in (before_in y)))) (source_in y) []) l) (sym h) a
 
-pub layout_nowhere : (x : State) → x.outset ≡ None → members_of (state_of x) ≡ []
+pub layout_nowhere : (x : State) → x.outset ≡ None → source_members (state_of x) ≡ []
 layout_nowhere x h = ap (λ (y : Option Outset). option_map_or (λ source. resources_in (shape_of source (seen_in (before_in y)))) (source_in y) []) h
 
 -- what is found at a row, and where there is none
@@ -327,7 +327,7 @@ found_so s path v (Some f) e i = record { evaluated = sym e ∙ i.0; known = i.1
 pub found_at : {E : Type 0} (x : State) (o : Outset) (l : Layout) (at : ℕ) (r : Placed) (res : Result (Option Found) E) → x.outset ≡ Some o
     → AreRows (resources_in (shape_of o.source (seen_in o.before))) l → slice_get l.rows.items at ≡ Some r
     → IfOk res (IsFoundBy (props_at o.source (shape_of o.source (seen_in o.before)) (seen_of_places (state_of x) r.needs.items) r.path))
-    → IfOk res (λ found. (m : Member) → slice_get (members_of (state_of x)) at ≡ Some m → FindsAt (state_of x) m.path found)
+    → IfOk res (λ found. (m : Member) → slice_get (source_members (state_of x)) at ≡ Some m → FindsAt (state_of x) m.path found)
 found_at x o l at r (Err e) h a g i = tt
 found_at x o l at r (Ok f) h a g i =
     λ m k.
@@ -338,12 +338,12 @@ found_at x o l at r (Ok f) h a g i =
     i
 
 pub none_at : (x : State) (o : Outset) (l : Layout) (at : ℕ) → x.outset ≡ Some o → AreRows (resources_in (shape_of o.source (seen_in o.before))) l → slice_get l.rows.items at ≡ None
-    → (m : Member) → slice_get (members_of (state_of x)) at ≡ Some m → FindsAt (state_of x) m.path None
+    → (m : Member) → slice_get (source_members (state_of x)) at ≡ Some m → FindsAt (state_of x) m.path None
 none_at x o l at h a n m k =
     let rows = layout_there x o l h a in
     absurd (none-some m.path
     (sym (ap (option_map (λ (r : Placed). r.path)) n) ∙ sym (slice_get-map (λ (r : Placed). r.path) l.rows.items at) ∙ ap (λ (ps : List (List ℕ)). slice_get ps at) rows.paths
-    ∙ slice_get-map (λ (y : Member). y.path) (members_of (state_of x)) at ∙ ap (option_map (λ (y : Member). y.path)) k))
+    ∙ slice_get-map (λ (y : Member). y.path) (source_members (state_of x)) at ∙ ap (option_map (λ (y : Member). y.path)) k))
 
-pub none_without : (x : State) (at : ℕ) → x.outset ≡ None → (m : Member) → slice_get (members_of (state_of x)) at ≡ Some m → FindsAt (state_of x) m.path None
+pub none_without : (x : State) (at : ℕ) → x.outset ≡ None → (m : Member) → slice_get (source_members (state_of x)) at ≡ Some m → FindsAt (state_of x) m.path None
 none_without x at h m k = absurd (none-some m (ap (λ (ms : List Member). slice_get ms at) (sym (layout_nowhere x h)) ∙ k))

@@ -12,7 +12,7 @@ use Rattle.cf_effect.specs.declared.findings.Found.{Found}
 use Rattle.cf_effect.specs.declared.held.Held.{Held}
 use Rattle.cf_effect.specs.Begin.{seen_in}
 use Rattle.cf_effect.specs.End.{seen_now}
-use Rattle.cf_effect.specs.Layout.{members_of}
+use Rattle.cf_effect.specs.Layout.{source_members}
 use Rattle.cf_effect.specs.Words.{is_current_at}
 use Rattle.cf_effect.specs.World.{StackState}
 
@@ -35,8 +35,8 @@ FindsAt s path (Some e) = IsFound s path e
 
 -- by places in the order of work
 pub record AreFindings (s : StackState) (f : Findings) : Type 0 where
-  pub made : f.made.items ≡ map (λ m. place_among m.path s.made) (members_of s)
-  pub held : f.held.items ≡ map (λ m. place_among m.path s.held) (members_of s)
-  pub count : length f.found.items ≡ length (members_of s)
-  pub found : (at : ℕ) (m : Member) (e : Found) → slice_get (members_of s) at ≡ Some m → slice_get f.found.items at ≡ Some (Some e)
+  pub made : f.made.items ≡ map (λ m. place_among m.path s.made) (source_members s)
+  pub held : f.held.items ≡ map (λ m. place_among m.path s.held) (source_members s)
+  pub count : length f.found.items ≡ length (source_members s)
+  pub found : (at : ℕ) (m : Member) (e : Found) → slice_get (source_members s) at ≡ Some m → slice_get f.found.items at ≡ Some (Some e)
       → IsFound s m.path e

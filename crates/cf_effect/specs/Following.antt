@@ -14,7 +14,7 @@ use Rattle.cf_effect.specs.declared.held.Held.{Held}
 use Rattle.cf_effect.specs.declared.layout.Layout.{Layout}
 use Rattle.cf_effect.specs.Begin.{shown_under}
 use Rattle.cf_effect.specs.Findings.{place_among}
-use Rattle.cf_effect.specs.Layout.{AreRows, is_place, members_of}
+use Rattle.cf_effect.specs.Layout.{AreRows, is_place, source_members}
 use Rattle.cf_effect.specs.Words.{resource_at}
 use Rattle.cf_effect.specs.World.{StackState}
 
@@ -24,7 +24,7 @@ kept_at places at = option_and_then (λ (place : Option ℕ). place) (slice_get 
 
 -- the resource of the path at a place, and what the resources at some places show
 abbrev pub resource_in : StackState → ℕ → Option Held
-resource_in s at = option_and_then (λ m. resource_at m.path s) (slice_get (members_of s) at)
+resource_in s at = option_and_then (λ m. resource_at m.path s) (slice_get (source_members s) at)
 
 abbrev pub seen_of_places : StackState → List ℕ → Seen
 seen_of_places s places = by_names (map shown_under (filter_map (resource_in s) places))
@@ -48,12 +48,12 @@ pub record AreTaken (places : List ℕ) (old new : List (Option Found)) : Type 0
 pub record Forgets (s : StackState) (path : List ℕ) (old new : List (Option Found)) : Type 0 where
   pub count : length new ≡ length old
   pub kept : (at : ℕ) (e : Found) → slice_get new at ≡ Some (Some e) → slice_get old at ≡ Some (Some e)
-  pub other : (at : ℕ) (m : Member) (e : Found) → slice_get (members_of s) at ≡ Some m → slice_get new at ≡ Some (Some e)
+  pub other : (at : ℕ) (m : Member) (e : Found) → slice_get (source_members s) at ≡ Some m → slice_get new at ≡ Some (Some e)
       → is_among path m.needs ≡ false
 
 -- the path stands at this place
 abbrev pub IsPlaceOf : StackState → List ℕ → ℕ → Type 0
-IsPlaceOf s path at = (m : Member) × (slice_get (members_of s) at ≡ Some m) × (m.path ≡ path)
+IsPlaceOf s path at = (m : Member) × (slice_get (source_members s) at ≡ Some m) × (m.path ≡ path)
 
 -- a place is put in, where there is none yet
 abbrev pub with_place : ℕ → ℕ → List (Option ℕ) → List (Option ℕ)

@@ -1,32 +1,21 @@
 -- How a layout is laid out of what is told of each path in the order of work, one pass after another (this project's own).
-use Rattle.std.specs.Prelude.{◌≡◌, ℕ, ◌==◌, ◌<◌, ◌&&◌, ◌||◌, Bool, List, [], length, position, slice_get, is_some, if◌then◌else◌}
+use Rattle.std.specs.Prelude.{◌≡◌, ℕ, ◌==◌, ◌<◌, ◌&&◌, ◌||◌, Bool, List, [], length, slice_get}
 use Rattle.std.specs.List.{filter_map}
 use Rattle.std.specs.Option.{option_map_or}
 use Rattle.std.specs.Str.{bytes_eq}
 use Rattle.std.specs.Global.{Vec}
-use Rattle.cf_tree.specs.Keys.{put, value_at}
+use Rattle.cf_tree.specs.Keys.{value_at}
 use Rattle.cf_desired.specs.declared.shape.Terms.{Terms}
 use Rattle.cf_effect.specs.declared.layout.Placed.{Placed}
-use Rattle.cf_effect.specs.declared.held.Held.{Held}
-use Rattle.cf_effect.specs.Layout.{is_place}
+use Rattle.cf_effect.specs.Index.{ArePlacesOf}
+use Rattle.cf_effect.specs.Layout.{is_place, row_needs}
 
--- under each path is the place of the first of a list that the path passes
-abbrev pub ArePlacesOf : {A : Type 0} → (List ℕ → A → Bool) → List A → List (List ℕ × ℕ) → Type 0
-ArePlacesOf test all places = (path : List ℕ) → value_at path places ≡ position (test path) all
-
--- under each path is its place; of two of one path the first counts
-abbrev pub has_path : List ℕ → List ℕ × Terms → Bool
-has_path path p = bytes_eq path p.0
+-- under each path is its place
+abbrev pub are_terms_of : List ℕ → List ℕ × Terms → Bool
+are_terms_of path p = bytes_eq path p.0
 
 abbrev pub HasPlaces : List (List ℕ × Terms) → List (List ℕ × ℕ) → Type 0
-HasPlaces all places = ArePlacesOf has_path all places
-
-abbrev pub put_place : List (List ℕ × ℕ) → List ℕ → ℕ → List (List ℕ × ℕ)
-put_place places path at = if is_some (value_at path places) then places else put path at places
-
--- none that is superseded counts
-abbrev pub put_current : List (List ℕ × ℕ) → Held → ℕ → List (List ℕ × ℕ)
-put_current places h at = if h.superseded then places else put_place places h.path at
+HasPlaces all places = ArePlacesOf are_terms_of all places
 
 -- the row of a path, with the places of its needs that have one
 abbrev pub row_told : Placed → List ℕ × List ℕ × List ℕ
@@ -45,9 +34,6 @@ pub record JoinsUsers (needs : List ℕ) (other : ℕ) (old new : List (Vec ℕ)
   pub users : (at j : ℕ) → at < length old → is_user j at new ≡ (is_user j at old || (is_place at needs && j == other))
 
 -- the users of all these rows
-abbrev pub needs_in : List Placed → ℕ → List ℕ
-needs_in rows at = option_map_or (λ r. r.needs.items) (slice_get rows at) []
-
 pub record AreUsers (rows : List Placed) (users : List (Vec ℕ)) : Type 0 where
   pub count : length users ≡ length rows
-  pub told : (at other : ℕ) → at < length rows → is_user other at users ≡ is_place at (needs_in rows other)
+  pub told : (at other : ℕ) → at < length rows → is_user other at users ≡ is_place at (row_needs rows other)

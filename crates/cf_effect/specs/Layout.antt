@@ -17,8 +17,8 @@ use Rattle.cf_effect.specs.World.{StackState}
 abbrev pub path_at : List Placed → ℕ → List ℕ
 path_at rows at = option_map_or (λ r. r.path) (slice_get rows at) []
 
-abbrev pub needs_at : Layout → ℕ → List ℕ
-needs_at l at = option_map_or (λ r. r.needs.items) (slice_get l.rows.items at) []
+abbrev pub row_needs : List Placed → ℕ → List ℕ
+row_needs rows at = option_map_or (λ r. r.needs.items) (slice_get rows at) []
 
 abbrev pub users_at : Layout → ℕ → List ℕ
 users_at l at = option_map_or (λ us. us.items) (slice_get l.users.items at) []
@@ -34,15 +34,15 @@ pub record AreRows (members : List Member) (l : Layout) : Type 0 where
   pub paths : map (λ r. r.path) l.rows.items ≡ map (λ m. m.path) members
   pub kinds : map (λ r. r.kind) l.rows.items ≡ map (λ m. m.kind) members
   pub needs : map (λ r. map (path_at l.rows.items) r.needs.items) l.rows.items ≡ map (λ m. m.needs) members
-  pub earlier : (at : ℕ) → AllByRecursion (λ k. k < at) (needs_at l at)
-  pub users : (at other : ℕ) → is_place other (users_at l at) ≡ is_place at (needs_at l other)
+  pub earlier : (at : ℕ) → AllByRecursion (λ k. k < at) (row_needs l.rows.items at)
+  pub users : (at other : ℕ) → is_place other (users_at l at) ≡ is_place at (row_needs l.rows.items other)
   pub places : (path : List ℕ) → value_at path l.places ≡ position (is_row_of path) l.rows.items
 
 -- the resources of the source of a stack's last create or update, in the order of work over what was held as that began
-abbrev pub members_of : StackState → List Member
-members_of s = option_map_or (λ source. resources_in (shape_of source (seen_in s.before))) s.going []
+abbrev pub source_members : StackState → List Member
+source_members s = option_map_or (λ source. resources_in (shape_of source (seen_in s.before))) s.going []
 
 -- a stack that set out with no source has no resources of one
 abbrev pub IsLayoutOf : StackState → Option Layout → Type 0
-IsLayoutOf s None = members_of s ≡ []
-IsLayoutOf s (Some l) = AreRows (members_of s) l
+IsLayoutOf s None = source_members s ≡ []
+IsLayoutOf s (Some l) = AreRows (source_members s) l

@@ -18,5 +18,6 @@ pub mod Bounds
 pub mod Reserve
 pub mod Layout
 pub mod Findings
+pub mod Index
 pub mod Laying
 pub mod Following

@@ -11,6 +11,6 @@ abbrev pub is_of_its_path : List Held → List Held → Held → Bool
 is_of_its_path made held h =
     is_physical_of h.physical (option_or (current_at h.path made) (current_at h.path held)) && not h.superseded
 
-abbrev pub settled_by : List Right → List Held → List Held → Held → Held
-settled_by wanted made held h =
+abbrev pub settled_among : List Right → List Held → List Held → Held → Held
+settled_among wanted made held h =
     if is_of_its_path made held h then as_wanted (find (is_right_at h.path) wanted) h else record h { superseded = true }

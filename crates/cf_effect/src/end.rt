@@ -3,13 +3,13 @@ ghost use Rattle.std.specs.Prelude.{◌≡◌, ◌++◌, [], IfOk, map, option_c
 ghost use Rattle.std.specs.Option.{option_or};
 ghost use Rattle.cf_entry.specs.declared.status.Status.TheVariants as status;
 ghost use Rattle.cf_effect.specs.End.{as_wanted, completed, completing, ended_effect, ending, settled_in, stopping, turned_effect, turning};
-ghost use Rattle.cf_effect.specs.Settling.{is_of_its_path, settled_by};
+ghost use Rattle.cf_effect.specs.Settling.{is_of_its_path, settled_among};
 ghost use Rattle.cf_effect.specs.State.{effect_from, lists_pinning, state_of};
 ghost use Rattle.cf_effect.specs.Words.{current_at, resources_of};
 
 use crate::copies::copy_into;
 use crate::held::{Held, Helds};
-use crate::index::{CurrentIndex, RightIndex};
+use crate::index::PathIndex;
 use crate::listed::{Listed, Lists, import_names};
 use crate::state::State;
 use cf_desired::{Right, WholePlan};
@@ -22,9 +22,9 @@ use std::mem;
 /// The resources of a stack whose operation is completed, and what is wanted then.
 #[derive(Drop)]
 struct Settling<'a> {
-    made: CurrentIndex<'a>,
-    held: CurrentIndex<'a>,
-    wanted: RightIndex<'a>,
+    made: PathIndex<'a, Held>,
+    held: PathIndex<'a, Held>,
+    wanted: PathIndex<'a, Right>,
 }
 
 /// Gives a resource the policies and needs that are wanted at its path, and else supersedes it.
@@ -47,12 +47,12 @@ fn set_wanted(alloc: Global, held: &mut Held, right: Option<&Right>) -> Result<(
 impl<'a> Settling<'a> {
     /// The resources of a stack, to be settled by what is wanted.
     fn of(alloc: Global, stack: &'a State, whole: &'a WholePlan) -> Result<Settling<'a>, AllocError>
-        ensures { IfOk result (λ s. settled_by s.wanted s.made s.held ≡ settled_in whole.now (state_of stack.now)) }
+        ensures { IfOk result (λ s. settled_among s.wanted s.made s.held ≡ settled_in whole.now (state_of stack.now)) }
     {
         Ok(Settling {
-            made: CurrentIndex::new(alloc, stack.made.as_slice())?,
-            held: CurrentIndex::new(alloc, stack.held.as_slice())?,
-            wanted: RightIndex::new(alloc, whole.wanted.as_slice())?,
+            made: PathIndex::new(alloc, stack.made.as_slice())?,
+            held: PathIndex::new(alloc, stack.held.as_slice())?,
+            wanted: PathIndex::new(alloc, whole.wanted.as_slice())?,
         })
     }
 
@@ -60,9 +60,9 @@ impl<'a> Settling<'a> {
     fn resource_at(&self, path: &Txt) -> Option<&'a Held>
         ensures { option_copied result ≡ option_or (current_at path.now self.now.made) (current_at path.now self.now.held) }
     {
-        match self.made.current_at(path) {
+        match self.made.get(path) {
             Some(made) => Some(made),
-            None => self.held.current_at(path),
+            None => self.held.get(path),
         }
     }
 
@@ -78,11 +78,11 @@ impl<'a> Settling<'a> {
 
     /// A copy of a resource as the completed operation leaves it.
     fn settled(&self, alloc: Global, held: &Held) -> Result<Held, AllocError>
-        ensures { IfOk result (λ h. h ≡ settled_by self.now.wanted self.now.made self.now.held held.now) }
+        ensures { IfOk result (λ h. h ≡ settled_among self.now.wanted self.now.made self.now.held held.now) }
     {
         let mut settled = held.try_clone(alloc)?;
         let right = if self.is_of_its_path(held) {
-            self.wanted.right_at(&held.path)
+            self.wanted.get(&held.path)
         } else {
             None
         };
@@ -104,7 +104,7 @@ fn settle_each(
     helds: &[Held],
     all: &mut Helds,
 ) -> Result<(), AllocError>
-    ensures { IfOk result (λ _. all.new.items ≡ all.old.items ++ map (settled_by settling.now.wanted settling.now.made settling.now.held) helds.now) }
+    ensures { IfOk result (λ _. all.new.items ≡ all.old.items ++ map (settled_among settling.now.wanted settling.now.made settling.now.held) helds.now) }
 {
     for held in helds {
         all.push(settling.settled(alloc, held)?)?;

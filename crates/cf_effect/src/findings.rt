@@ -8,7 +8,7 @@ ghost use Rattle.cf_desired.specs.Work.{Member};
 ghost use Rattle.cf_effect.specs.Begin.{seen_in};
 ghost use Rattle.cf_effect.specs.Findings.{AreFindings, FindsAt, place_among};
 ghost use Rattle.cf_effect.specs.Following.{IsFoundBy, IsNothing, Notes, StandAt, kept_at, nowhere, resource_in, seen_of_places};
-ghost use Rattle.cf_effect.specs.Layout.{IsLayoutOf, members_of};
+ghost use Rattle.cf_effect.specs.Layout.{IsLayoutOf, source_members};
 ghost use Rattle.cf_effect.specs.State.{state_of};
 ghost use Rattle.cf_effect.specs.World.{StackState};
 
@@ -66,7 +66,7 @@ pub fn layout_of(state: &State) -> Option<&Layout>
 
 /// The rows of its source.
 fn rows_of(state: &State) -> &[Placed]
-    ensures { map (λ r. r.path) result.now ≡ map (λ m. m.path) (members_of (state_of state.now)) }
+    ensures { map (λ r. r.path) result.now ≡ map (λ m. m.path) (source_members (state_of state.now)) }
 {
     match layout_of(state) {
         Some(layout) => layout.rows.as_slice(),
@@ -131,7 +131,7 @@ fn places_among(
 /// The places in a list of the resources that it holds at the paths of the source.
 #[tactic(auto, using(crate::proofs::Noted::no_paths))]
 fn places_in(alloc: Global, state: &State, helds: &[Held]) -> Result<Vec<Option<usize>>, AllocError>
-    ensures { IfOk result (λ places. places.items ≡ map (λ m. place_among m.path helds.now) (members_of (state_of state.now))) }
+    ensures { IfOk result (λ places. places.items ≡ map (λ m. place_among m.path helds.now) (source_members (state_of state.now))) }
 {
     match layout_of(state) {
         Some(layout) => places_among(alloc, layout, helds),
@@ -303,7 +303,7 @@ pub fn find_at(
     at: usize,
 ) -> Result<Option<Found>, AllocError>
     requires { AreFindings (state_of state.now) findings.now }
-    ensures { IfOk result (λ found. (m : Member) → slice_get (members_of (state_of state.now)) at ≡ Some m
+    ensures { IfOk result (λ found. (m : Member) → slice_get (source_members (state_of state.now)) at ≡ Some m
         → FindsAt (state_of state.now) m.path found) }
 {
     match &state.outset {

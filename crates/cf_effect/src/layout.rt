@@ -7,8 +7,9 @@ ghost use Rattle.cf_desired.specs.Turns.{pathed};
 ghost use Rattle.cf_desired.specs.Work.{Member};
 ghost use Rattle.cf_effect.specs.Layout.{AreRows, users_at};
 ghost use Rattle.cf_effect.specs.Following.{IsPlaceIn, stands_at};
-ghost use Rattle.cf_effect.specs.Laying.{AreUsers, HasPlaces, JoinsUsers, is_user, laid_row, put_place, row_told};
+ghost use Rattle.cf_effect.specs.Laying.{AreUsers, JoinsUsers, is_user, laid_row, row_told};
 
+use crate::index::places_of;
 use cf_desired::Terms as Termed;
 use cf_tree::{ByName, Names, TryClone, Txt};
 use std::alloc::{AllocError, Global};
@@ -75,34 +76,6 @@ impl Layout {
             None => &[],
         }
     }
-}
-
-/// Puts a place under a path, unless there is one already. After an error nothing is said of the places.
-pub(crate) fn put_place(
-    alloc: Global,
-    places: &mut ByName<usize>,
-    path: &Txt,
-    at: usize,
-) -> Result<(), AllocError>
-    ensures { IfOk result (λ _. places.new ≡ put_place places.old path.now at) }
-{
-    if places.get(path.as_str()).is_some() {
-        Ok(())
-    } else {
-        places.insert(path.try_clone(alloc)?, at)
-    }
-}
-
-/// Where each path stands.
-#[tactic(auto, using(crate::proofs::Laid::placed_more))]
-fn places_of(alloc: Global, all: &[(Txt, Termed)]) -> Result<ByName<usize>, AllocError>
-    ensures { IfOk result (HasPlaces all.now) }
-{
-    let mut places = ByName::new(alloc);
-    for (at, told) in all.iter().enumerate() {
-        put_place(alloc, &mut places, &told.0, at)?;
-    }
-    Ok(places)
 }
 
 /// The places of what a path needs.

@@ -37,6 +37,7 @@ pub use held::{
     Abandoned, GivenUp, Held, HeldStatus, Helds, KeptSet, KeptSets, Leftover, Leftovers, Pending,
     Pendings, open_call,
 };
+pub use index::{FoundByPath, PathIndex};
 pub use layout::{Layout, Placed};
 pub use ledger::call_with;
 pub use lines::{growing_line, line_in_room};

@@ -1,15 +1,14 @@
 -- What the public calls are to answer (this project's own).
-use Rattle.std.specs.Prelude.{◌≡◌, ℕ, List, Bool, Option, Result, Ok, Err, map, ⊤}
+use Rattle.std.specs.Prelude.{◌≡◌, ℕ, List, Bool, Option, Some, None, Result, Ok, Err, map, option_map, ⊤}
 use Rattle.cf_tree.specs.declared.bound.Verdict.{Verdict}
 use Rattle.cf_eval.specs.declared.env.Env as given
 use Rattle.cf_eval.specs.declared.fault.EvalFault.{EvalFault}
 use Rattle.cf_eval.specs.declared.fault.EvalFault.TheVariants as answer
-use Rattle.cf_eval.specs.declared.fault.EvalWhy.TheVariants.{UnknownName}
 use Rattle.cf_eval.specs.declared.fault.Stop as stopped
 use Rattle.cf_eval.specs.declared.fault.Stop.TheVariants as stop
 use Rattle.cf_eval.specs.declared.got.Got.{Got}
 use Rattle.cf_eval.specs.Gives.{got_found}
-use Rattle.cf_eval.specs.Outcome.{Outcome, Stop, got, bad, stopped_at}
+use Rattle.cf_eval.specs.Outcome.{Outcome, Stop, got, bad, fault, undecided, below, stopped_at}
 use Rattle.cf_eval.specs.Scope.{Scope, resource_scope, verdict_of}
 use Rattle.cf_eval.specs.Texts.{Found}
 
@@ -27,12 +26,16 @@ abbrev pub Evaluates : List ℕ → Found → Result Got EvalFault → Type 0
 Evaluates stack f (Ok g) = f ≡ got_found g
 Evaluates stack f (Err e) = RefusesIn stack f e
 
+-- why the code stopped, as the definitions say it; want of memory is no reason of theirs
+abbrev pub stop_of : stopped.Stop → Option Stop
+stop_of (stop.Bad why at) = Some (fault why at)
+stop_of (stop.Undecided name at) = Some (undecided name at)
+stop_of (stop.Below why from at) = Some (below why from at)
+stop_of stop.NoMemory = None
+
 -- why an evaluation stopped, as a fault of a nested stack
 abbrev pub IsStoppedBy : List ℕ → stopped.Stop → EvalFault → Type 0
-IsStoppedBy stack (stop.Bad why at) (answer.Bad w path place) = (w ≡ why) × (path ≡ stack) × (place ≡ at)
-IsStoppedBy stack (stop.Undecided name at) (answer.Bad w path place) = (w ≡ UnknownName) × (path ≡ stack) × (place ≡ at)
-IsStoppedBy stack (stop.Below why from at) (answer.Bad w path place) = (w ≡ why) × (path ≡ from) × (place ≡ at)
-IsStoppedBy stack stop.NoMemory (answer.Bad w path place) = ⊥
+IsStoppedBy stack s (answer.Bad why path at) = option_map (stopped_at stack) (stop_of s) ≡ Some (why, (path, at))
 IsStoppedBy stack s answer.NoMemory = ⊤
 
 -- `conditions` does

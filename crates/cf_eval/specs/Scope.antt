@@ -75,6 +75,7 @@ scope_from mappings bound pseudo decided beyond = record {
 abbrev pub resource_scope : Mappings → Settings → Verdicts → List (List ℕ × Data) → Sights → List (List ℕ × List ℕ) → Scope
 resource_scope mappings bound conds pseudo seen imports = scope_from mappings bound pseudo (verdict_among conds) (open_to seen imports)
 
--- the scope of its conditions, where its resources have these names: none of them is decided yet
+-- the scope in which a template's conditions are evaluated, whose resources have these names: no condition is decided in it, so that an
+-- evaluation that asks for one stops there
 abbrev pub condition_scope : Mappings → Settings → List (List ℕ × Data) → List (List ℕ) → Scope
 condition_scope mappings bound pseudo names = scope_from mappings bound pseudo (λ at name. bad (undecided name at)) (closed_to names)

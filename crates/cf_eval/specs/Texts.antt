@@ -42,17 +42,17 @@ abbrev pub data_in : Items → List Data
 data_in no_items = []
 data_in (item d ds) = d ∷ data_in ds
 
-abbrev pub members_in : Data → Option (List Data)
-members_in (list ds) = Some (data_in ds)
-members_in (text t) = None
-members_in (whole n) = None
-members_in (truth b) = None
-members_in (dict ms) = None
+abbrev pub list_in : Data → Option (List Data)
+list_in (list ds) = Some (data_in ds)
+list_in (text t) = None
+list_in (whole n) = None
+list_in (truth b) = None
+list_in (dict ms) = None
 
 -- a value that is wanted as a list at a place
 abbrev pub wanted_list : List ℕ → Option Data → Outcome (List Data)
 wanted_list at None = or_wrong at None
-wanted_list at (Some d) = or_wrong at (members_in d)
+wanted_list at (Some d) = or_wrong at (list_in d)
 
 -- a part that is wanted as a list
 abbrev pub as_list : List ℕ → Found → Outcome (List Data)

@@ -2,7 +2,7 @@
 ghost use Rattle.std.specs.Prelude.{◌≡◌, Some, IfOk};
 ghost use Rattle.std.specs.Option.{option_copied};
 ghost use Rattle.cf_tree.specs.Value.{datum_of, data_of};
-ghost use Rattle.cf_eval.specs.Texts.{text_of, truth_text, wanted_text, as_text, wanted_list, as_list, wanted_index, index_of, members_in, whole_number_of, within};
+ghost use Rattle.cf_eval.specs.Texts.{text_of, truth_text, wanted_text, as_text, wanted_list, as_list, wanted_index, index_of, list_in, whole_number_of, within};
 ghost use Rattle.cf_eval.specs.Gives.{got_found, Gives, GivesPart, GivesNow, GivesList, GivesMembers};
 
 use crate::fault::{EvalWhy, Stop};
@@ -104,8 +104,8 @@ pub(crate) fn index_of(alloc: Global, value: &Val) -> Result<Option<i64>, AllocE
 }
 
 #[tactic(auto, using(crate::proofs::Lists::members_are))]
-fn members_in(value: &Val) -> Option<&Vals>
-    ensures { option_copied result ≡ members_in (datum_of value.now) }
+fn list_in(value: &Val) -> Option<&Vals>
+    ensures { option_copied result ≡ list_in (datum_of value.now) }
 {
     match value {
         Val::List(members) => Some(members),
@@ -117,7 +117,7 @@ fn members_in(value: &Val) -> Option<&Vals>
 pub(crate) fn wanted_list<'a>(alloc: Global, at: &Txt, value: &'a Val) -> Result<&'a Vals, Stop>
     ensures { GivesMembers (wanted_list at.now (Some (datum_of value.now))) result }
 {
-    match members_in(value) {
+    match list_in(value) {
         Some(members) => Ok(members),
         None => Err(Stop::Bad {
             why: EvalWhy::WrongKind,

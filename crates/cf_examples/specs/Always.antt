@@ -1,5 +1,5 @@
 -- The theorem, of the worked lives: what always holds is met at their ends, and midway: before an answer is written down, while a call
--- flies, as a late effect has acted of which nobody knows, and as a resource is gone of which nobody knows.
+-- flies, as a late effect has acted of which nobody knows, and as a resource is gone of which nobody knows (this project's own).
 use Rattle.cf_plan.specs.Life.{Life}
 use Rattle.cf_plan.specs.Promise.{AreKept}
 use Rattle.cf_core.specs.Theorem.{HoldsAlways}

@@ -1,4 +1,4 @@
--- Wrong accounts, leases and lanes: each breaks one part of the agreement of journal and lanes.
+-- Wrong accounts, leases and lanes: each breaks one part of the agreement of journal and lanes (this project's own).
 use Rattle.std.specs.Prelude.{ℕ, ◌==◌, true, false, List, [], ◌∷◌, Option, Some, None, codes, if◌then◌else◌}
 use Rattle.std.specs.Str.{bytes_eq}
 use Rattle.cf_tree.specs.declared.request.Request.{Request}

@@ -1,5 +1,5 @@
 -- Wrong ends, worlds, journals and courses, over the stack and the lane of the first resource: no status promises the ends, and of
--- the others each breaks one part of what always holds.
+-- the others each breaks one part of what always holds (this project's own).
 use Rattle.std.specs.Prelude.{ℕ, true, List, [], ◌∷◌, ◌++◌, Some, None, codes}
 use Rattle.cf_tree.specs.declared.source.Source.{Source}
 use Rattle.cf_export.specs.declared.Export.{Export}

@@ -1,5 +1,6 @@
 -- A life with a continued rollback: an update breaks off each time that it is called, so its rollback fails, and while the
--- engine is closed it acts after all. The next opening raises the fence past it, and the rollback is continued without it.
+-- engine is closed it acts after all. The next opening raises the fence past it, and the rollback is continued without it (this project's
+-- own).
 use Rattle.std.specs.Prelude.{ℕ, List, [], ◌∷◌, codes, true, false}
 use Rattle.cf_tree.specs.declared.request.Answer.TheVariants as answer
 use Rattle.cf_handler.specs.Fence.{Raised, Untouched, SettledBy, FlyingOn}

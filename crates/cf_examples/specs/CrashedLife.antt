@@ -1,5 +1,5 @@
 -- A life with a crash: the first call breaks off and may act later, and the engine is gone before that is written down.
--- It is opened again, the fence is raised past the call that may act, and the token is called again and answers.
+-- It is opened again, the fence is raised past the call that may act, and the token is called again and answers (this project's own).
 use Rattle.std.specs.Prelude.{List, [], ◌∷◌, codes, true, false}
 use Rattle.cf_tree.specs.declared.request.Answer.TheVariants as answer
 use Rattle.cf_tree.specs.declared.request.Request.TheVariants as request

@@ -1,5 +1,5 @@
 -- A life with a deletion that nobody knows of: the stack of the first life is deleted, its resource is gone, and the engine is
--- gone before that is written down. In the next opening the deletion is called again, and answers as it did.
+-- gone before that is written down. In the next opening the deletion is called again, and answers as it did (this project's own).
 use Rattle.std.specs.Prelude.{List, [], ◌∷◌, ◌++◌, codes, true, false}
 use Rattle.cf_tree.specs.declared.request.Answer.TheVariants as answer
 use Rattle.cf_tree.specs.declared.request.Request.TheVariants as request

@@ -1,4 +1,4 @@
--- What stands at the ends of some of the runs: the lanes hold what the statuses promise.
+-- What stands at the ends of some of the runs: the lanes hold what the statuses promise (this project's own).
 use Rattle.std.specs.Prelude.{ℕ, List, [], ◌∷◌, codes}
 use Rattle.cf_tree.specs.declared.request.Request.TheVariants as request
 use Rattle.cf_handler.specs.declared.settled.Settled.{Settled}

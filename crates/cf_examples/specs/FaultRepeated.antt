@@ -1,4 +1,5 @@
--- A call breaks off after it acted: it is repeated and answers; then another resource is refused, and the first is given back what it had.
+-- A call breaks off after it acted: it is repeated and answers; then another resource is refused, and the first is given back what it had
+-- (this project's own).
 use Rattle.std.specs.Prelude.{◌≡◌, List, [], ◌∷◌, codes, Some, None, false, ◌++◌}
 use Rattle.cf_tree.specs.declared.code.Code.TheVariants as code
 use Rattle.cf_tree.specs.declared.request.Request.TheVariants as request

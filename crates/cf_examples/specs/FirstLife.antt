@@ -1,5 +1,5 @@
 -- The first resource as the life of an engine: a new journal is opened over one lane, its fence is raised, a stack is
--- begun, a call is granted, made and written down, and the book is closed.
+-- begun, a call is granted, made and written down, and the book is closed (this project's own).
 use Rattle.std.specs.Prelude.{ℕ, List, [], ◌∷◌, ◌++◌, codes, true, false, Some}
 use Rattle.cf_tree.specs.declared.request.Answer.TheVariants as answer
 use Rattle.cf_tree.specs.declared.request.Request.TheVariants as request

@@ -1,4 +1,4 @@
--- The first resource: a stack of one file.
+-- The first resource: a stack of one file (this project's own).
 use Rattle.std.specs.Prelude.{◌≡◌, List, [], ◌∷◌, codes, Some, false, true}
 use Rattle.cf_tree.specs.declared.request.Request.TheVariants as request
 use Rattle.cf_tree.specs.declared.source.Source.{Source}

@@ -1,4 +1,4 @@
--- What the worked runs share: the two shipped types, and the parts of their entries.
+-- What the worked runs share: the two shipped types, and the parts of their entries (this project's own).
 use Rattle.std.specs.Prelude.{ℕ, List, [], ◌∷◌, codes, pos, Bool, true, false, ◌==◌, ◌||◌, ◌&&◌, if◌then◌else◌, map, filter, find, fold, reverse, ◌++◌}
 use Rattle.std.specs.Option.{option_map_or}
 use Rattle.std.specs.Str.{bytes_eq}

@@ -1,4 +1,5 @@
--- An update breaks off three times, and acts late: the first repeat on the way back meets it, and what was there is given back.
+-- An update breaks off three times, and acts late: the first repeat on the way back meets it, and what was there is given back (this
+-- project's own).
 use Rattle.std.specs.Prelude.{◌≡◌, List, [], ◌∷◌, codes, Some, None, false}
 use Rattle.cf_tree.specs.declared.request.Request.TheVariants as request
 use Rattle.cf_tree.specs.declared.source.Source.{Source}

@@ -1,5 +1,6 @@
 -- A life with a late effect: an update breaks off and may act later; it is called again in vain until the forward phase has
--- failed, and acts just before the rollback calls it once more. The call then answers, and the earlier content comes back.
+-- failed, and acts just before the rollback calls it once more. The call then answers, and the earlier content comes back (this project's
+-- own).
 use Rattle.std.specs.Prelude.{List, [], ◌∷◌, codes, true, false, None}
 use Rattle.cf_tree.specs.declared.request.Answer.TheVariants as answer
 use Rattle.cf_tree.specs.declared.request.Request.TheVariants as request

@@ -1,5 +1,5 @@
 -- A life with a lane that an opening leaves out: a creation stays in doubt until its stack is deleted without it, the next
--- opening hands in another lane, and the creation acts on the first one while the stack is made anew on the second.
+-- opening hands in another lane, and the creation acts on the first one while the stack is made anew on the second (this project's own).
 use Rattle.std.specs.Prelude.{ℕ, List, [], ◌∷◌, ◌++◌, codes, true, false}
 use Rattle.cf_tree.specs.declared.request.Answer.TheVariants as answer
 use Rattle.cf_tree.specs.declared.request.Request.TheVariants as request

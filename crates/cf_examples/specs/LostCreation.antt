@@ -1,4 +1,5 @@
--- A creation stays in doubt, in its rollback and in the deletion of its stack: a deletion that keeps its path lists it without an id.
+-- A creation stays in doubt, in its rollback and in the deletion of its stack: a deletion that keeps its path lists it without an id
+-- (this project's own).
 use Rattle.std.specs.Prelude.{◌≡◌, List, [], ◌∷◌, codes, Some}
 use Rattle.cf_tree.specs.declared.request.Request.TheVariants as request
 use Rattle.cf_tree.specs.declared.source.Source.{Source}

@@ -1,4 +1,5 @@
--- An update makes a resource and is refused at another: what it made is deleted in the cleanup of the rollback, and not before.
+-- An update makes a resource and is refused at another: what it made is deleted in the cleanup of the rollback, and not before (this
+-- project's own).
 use Rattle.std.specs.Prelude.{◌≡◌, List, [], ◌∷◌, codes, Some, None, false, ◌++◌}
 use Rattle.cf_tree.specs.declared.code.Code.TheVariants as code
 use Rattle.cf_tree.specs.declared.request.Request.TheVariants as request

@@ -1,4 +1,4 @@
--- A nested stack gets the length of a file of the stack around it as its parameter.
+-- A nested stack gets the length of a file of the stack around it as its parameter (this project's own).
 use Rattle.std.specs.Prelude.{option_map, Some, ◌≡◌, List, [], ◌∷◌, codes, false, map, ◌++◌}
 use Rattle.cf_tree.specs.declared.request.Request.TheVariants as request
 use Rattle.cf_tree.specs.declared.source.Source.{Source}

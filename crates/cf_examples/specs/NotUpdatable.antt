@@ -1,4 +1,4 @@
--- An update that is answered NotUpdatable where a conditional property differs becomes a replacement.
+-- An update that is answered NotUpdatable where a conditional property differs becomes a replacement (this project's own).
 use Rattle.std.specs.Prelude.{◌≡◌, List, [], ◌∷◌, codes, None, false}
 use Rattle.cf_tree.specs.Datum.{text}
 use Rattle.cf_tree.specs.declared.code.Code.TheVariants as code

@@ -1,5 +1,6 @@
 -- A life of two stacks: a change set is kept while the engine is closed and carried out by a creation, while the other stack
--- rests; then the other one is updated meanwhile, each has a call of its own lane out, and they answer in the other order.
+-- rests; then the other one is updated meanwhile, each has a call of its own lane out, and they answer in the other order (this project's
+-- own).
 use Rattle.std.specs.Prelude.{List, [], ◌∷◌, ◌++◌, codes, true, false, None}
 use Rattle.cf_tree.specs.declared.request.Answer.TheVariants as answer
 use Rattle.cf_tree.specs.declared.request.Request.{Request}

@@ -1,4 +1,5 @@
--- A stack exports the length of a file, and another one imports it: an update that would change the length is taken back.
+-- A stack exports the length of a file, and another one imports it: an update that would change the length is taken back (this project's
+-- own).
 use Rattle.std.specs.Prelude.{◌≡◌, List, [], ◌∷◌, codes, Some, None, false, ◌++◌}
 use Rattle.cf_tree.specs.declared.request.Request.TheVariants as request
 use Rattle.cf_tree.specs.declared.source.Source.{Source}

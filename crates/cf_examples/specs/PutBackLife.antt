@@ -1,5 +1,5 @@
 -- A life of a journal that was put back from an earlier copy, while its lane has heard of three openings since. Its next opening
--- finds the lane ahead, and the call that it makes is stale; the one after that has caught up, and the call answers.
+-- finds the lane ahead, and the call that it makes is stale; the one after that has caught up, and the call answers (this project's own).
 use Rattle.std.specs.Prelude.{ℕ, List, [], ◌∷◌, codes, true, false}
 use Rattle.cf_handler.specs.Fence.{Left, Ahead, Untouched}
 use Rattle.cf_entry.specs.declared.entry.Entry.{Entry}

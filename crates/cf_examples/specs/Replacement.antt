@@ -1,5 +1,5 @@
 -- A file is replaced: the record that refers to it is updated to the new id, and the old file is deleted in the cleanup (worked in the
--- order of the calls).
+-- order of the calls). This project's own.
 use Rattle.std.specs.Prelude.{◌≡◌, ℕ, List, [], ◌∷◌, ◌++◌, codes, None, false}
 use Rattle.cf_tree.specs.declared.request.Request.TheVariants as request
 use Rattle.cf_tree.specs.declared.source.Source.{Source}

@@ -1,4 +1,4 @@
--- An update is refused at its second resource, and so is the restore of the first: a continued rollback skips it.
+-- An update is refused at its second resource, and so is the restore of the first: a continued rollback skips it (this project's own).
 use Rattle.std.specs.Prelude.{◌≡◌, List, [], ◌∷◌, codes, Some, None, true, false, ◌++◌}
 use Rattle.cf_tree.specs.declared.code.Code.TheVariants as code
 use Rattle.cf_tree.specs.declared.request.Request.TheVariants as request

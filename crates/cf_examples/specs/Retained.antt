@@ -1,4 +1,4 @@
--- A stack is deleted: what needs the file goes first, and the file is kept by its policy.
+-- A stack is deleted: what needs the file goes first, and the file is kept by its policy (this project's own).
 use Rattle.std.specs.Prelude.{◌≡◌, List, [], ◌∷◌, codes, ◌++◌}
 use Rattle.cf_tree.specs.declared.request.Request.TheVariants as request
 use Rattle.cf_tree.specs.declared.source.Source.{Source}

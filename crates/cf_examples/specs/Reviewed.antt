@@ -1,4 +1,4 @@
--- A change set: another path replaces the file, and what refers to it may be replaced.
+-- A change set: another path replaces the file, and what refers to it may be replaced (this project's own).
 use Rattle.std.specs.Prelude.{◌≡◌, List, [], ◌∷◌, codes, Some, None, false, ◌++◌}
 use Rattle.cf_tree.specs.declared.request.Request.TheVariants as request
 use Rattle.cf_tree.specs.declared.source.Source.{Source}

@@ -1,4 +1,4 @@
--- A creation is refused at its second resource, and the deletion of the first one is refused too.
+-- A creation is refused at its second resource, and the deletion of the first one is refused too (this project's own).
 use Rattle.std.specs.Prelude.{List, [], ◌∷◌, codes, Some, ◌++◌}
 use Rattle.cf_tree.specs.declared.code.Code.TheVariants as code
 use Rattle.cf_tree.specs.declared.request.Request.TheVariants as request

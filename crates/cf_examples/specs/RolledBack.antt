@@ -1,4 +1,4 @@
--- A creation is refused at its second resource, and the first one is deleted.
+-- A creation is refused at its second resource, and the first one is deleted (this project's own).
 use Rattle.std.specs.Prelude.{List, [], ◌∷◌, codes, Some, ◌++◌}
 use Rattle.cf_tree.specs.declared.code.Code.TheVariants as code
 use Rattle.cf_tree.specs.declared.request.Request.TheVariants as request

@@ -1,5 +1,6 @@
 -- A site of files and records, with parameters, a mapping, a condition and an exported output; another stack imports its
--- value, and neither may go before what needs it. (Its numbers are written as texts: how a number is read does not compute.)
+-- value, and neither may go before what needs it. (Its numbers are written as texts: how a number is read does not compute.) This
+-- project's own.
 use Rattle.std.specs.Prelude.{◌≡◌, List, [], ◌∷◌, ◌++◌, codes, Some, false}
 use Rattle.cf_tree.specs.declared.request.Request.TheVariants as request
 use Rattle.cf_tree.specs.declared.source.Source.{Source}

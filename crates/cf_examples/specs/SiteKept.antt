@@ -1,5 +1,5 @@
 -- The site is to be updated while its exported value is imported: what was updated comes to another value, which no end may
--- leave, so both resources are given back.
+-- leave, so both resources are given back (this project's own).
 use Rattle.std.specs.Prelude.{◌≡◌, List, [], ◌∷◌, ◌++◌, codes, Some, None, false}
 use Rattle.cf_tree.specs.declared.request.Request.TheVariants as request
 use Rattle.cf_tree.specs.declared.source.Source.{Source}

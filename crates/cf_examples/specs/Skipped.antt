@@ -1,4 +1,4 @@
--- An update breaks off each time that it is called: the rollback fails, and a continued one skips it.
+-- An update breaks off each time that it is called: the rollback fails, and a continued one skips it (this project's own).
 use Rattle.std.specs.Prelude.{◌≡◌, List, [], ◌∷◌, ◌++◌, codes, Some, None, true, false}
 use Rattle.cf_tree.specs.declared.request.Request.TheVariants as request
 use Rattle.cf_tree.specs.declared.source.Source.{Source}

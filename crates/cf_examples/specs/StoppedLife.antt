@@ -1,5 +1,6 @@
 -- A life with two calls at once, whose book is stopped four times: an outcome and an opening are not written down, an outcome and
--- the end are by appends that break. Calls that are out answer all the same, are parked, and are made again in the next opening.
+-- the end are by appends that break. Calls that are out answer all the same, are parked, and are made again in the next opening (this
+-- project's own).
 use Rattle.std.specs.Prelude.{ℕ, List, [], ◌∷◌, ◌++◌, codes, true, false}
 use Rattle.cf_tree.specs.declared.request.Answer.TheVariants as answer
 use Rattle.cf_tree.specs.declared.request.Request.{Request}

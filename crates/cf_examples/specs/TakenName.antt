@@ -1,4 +1,4 @@
--- A file is moved onto the name of another one: the handler refuses, and the update is taken back.
+-- A file is moved onto the name of another one: the handler refuses, and the update is taken back (this project's own).
 use Rattle.std.specs.Prelude.{◌≡◌, List, [], ◌∷◌, codes, Some, None, false, ◌++◌}
 use Rattle.cf_tree.specs.declared.code.Code.TheVariants as code
 use Rattle.cf_tree.specs.declared.request.Request.TheVariants as request

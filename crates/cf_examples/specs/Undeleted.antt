@@ -1,4 +1,4 @@
--- An update leaves a file out, and its deletion is refused three times: it is left over, and the update is complete.
+-- An update leaves a file out, and its deletion is refused three times: it is left over, and the update is complete (this project's own).
 use Rattle.std.specs.Prelude.{◌≡◌, List, [], ◌∷◌, codes, None, false, ◌++◌}
 use Rattle.cf_tree.specs.declared.code.Code.TheVariants as code
 use Rattle.cf_tree.specs.declared.request.Request.TheVariants as request

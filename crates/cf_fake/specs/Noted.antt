@@ -18,7 +18,7 @@ abbrev pub first_text : List (List ℕ) → List (List ℕ × Data) → Option (
 first_text [] props = None
 first_text (name ∷ names) props = text_of (value_at name props)
 
--- whether a text, or that there is none, is noted
+-- whether a text, or that there is none, is noted; where others are noted too, each text is, and that there is none
 abbrev pub is_noted : Noted → Option (List ℕ) → Bool
 is_noted n t = n.others || option_map_or (λ t. is_some (value_at t n.texts)) t false
 

@@ -48,7 +48,7 @@ use Rattle.cf_plan.proofs.StatesOpen.{are_open_by, failed_on_the_way}
 use Rattle.cf_plan.proofs.StatesRead.{read_so}
 use Rattle.cf_next.specs.declared.step.Next.{Next}
 use Rattle.cf_next.specs.Chosen.{IsChosen}
-use Rattle.cf_next.specs.Creation.{GoesAhead, are_made, are_sound, create_at, creates_from, creates_of, first_named, found_at, is_made_at, is_right, is_setback, is_sound, is_sound_row, is_update_of, known_at}
+use Rattle.cf_next.specs.Creation.{GoesAhead, are_made, are_sound, create_at, creates_of_rows, creates_of, first_named, found_at, is_made_at, is_right, is_setback, is_sound, is_sound_row, is_update_of, known_at}
 use Rattle.cf_next.specs.First.{call_in, fits_one, homes_now, is_start_before}
 use Rattle.cf_next.specs.Rollback.{IsTaken}
 use Rattle.cf_next.proofs.Advancing.{is_going}
@@ -364,7 +364,7 @@ module _ (s : StackState) (l : Layout) (f : Findings) (layout : IsLayoutOf s (So
         rw (no_flaw row.path row.kind (are_done_at done row.needs.items) (found_at f at) (sound_so at row h.0 k.0)) (none_flawed rest (suc at) h.1 k.1)
 
     all_creates : (schemas : List Schema) (rest : List Placed) (at : ℕ) → HoldsFrom IsSame at rest → are_sound f at rest ≡ true
-        → flat_map (starts_from schemas s done) (states_from at rest) ≡ creates_from s f at rest
+        → flat_map (starts_from schemas s done) (states_from at rest) ≡ creates_of_rows s f at rest
     all_creates schemas [] at h t = refl
     all_creates schemas (row ∷ rest) at h t =
         let k = both (is_sound_row f at row) (are_sound f (suc at) rest) t in
@@ -383,7 +383,7 @@ module _ (s : StackState) (l : Layout) (f : Findings) (layout : IsLayoutOf s (So
       enough = all_enough l.rows.items 0 all_same sound
 
       abbrev creates : List Start
-      creates = creates_from s f 0 l.rows.items
+      creates = creates_of_rows s f 0 l.rows.items
 
       are_open : AreOpen schemas s creates
       are_open = subst (AreOpen schemas s) (all_creates schemas l.rows.items 0 all_same sound) (are_open_by s states are enough schemas)

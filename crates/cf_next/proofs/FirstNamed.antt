@@ -14,7 +14,7 @@ use Rattle.cf_effect.specs.declared.findings.Findings.{Findings}
 use Rattle.cf_effect.specs.declared.layout.Layout.{Layout}
 use Rattle.cf_effect.specs.declared.layout.Placed.{Placed}
 use Rattle.cf_effect.specs.Findings.{AreFindings}
-use Rattle.cf_effect.specs.Layout.{AreRows, is_row_of, members_of}
+use Rattle.cf_effect.specs.Layout.{AreRows, is_row_of, source_members}
 use Rattle.cf_effect.specs.World.{StackState}
 use Rattle.cf_plan.specs.Start.{Start}
 use Rattle.cf_plan.proofs.Listed.{bytes_same, in_cons, same_bytes}
@@ -22,7 +22,7 @@ use Rattle.cf_plan.proofs.Members.{false_from, in_none, not_both}
 use Rattle.cf_plan.proofs.Orders.{lower, not_below_itself}
 use Rattle.cf_plan.proofs.RunLists.{is_found_in}
 use Rattle.cf_next.specs.Chosen.{physical_id_of, precedes}
-use Rattle.cf_next.specs.Creation.{create_at, creates_from, creates_of, first_named, fitting_at, known_at, may_create, or_fitting}
+use Rattle.cf_next.specs.Creation.{create_at, creates_of_rows, creates_of, first_named, fitting_at, known_at, may_create, or_fitting}
 use Rattle.cf_next.specs.First.{fits_one, is_start_before}
 use Rattle.cf_next.proofs.Firsts.{IsFirst, starts_in_order}
 use Rattle.cf_next.proofs.RollingBack.{its_place}
@@ -90,13 +90,13 @@ module _ (s : StackState) (f : Findings) where
   ]
 
   in_creates : (first at : ℕ) (rows : List Placed) (row : Placed) (a : Start) → slice_get rows at ≡ Some row → In a (creates_of s f (first + at) row)
-      → In a (creates_from s f first rows)
+      → In a (creates_of_rows s f first rows)
   in_creates first at [] row a e i = absurd (none-some row e)
   in_creates first zero (r ∷ rest) row a e i =
-      in_some a (creates_of s f first r) (creates_from s f (suc first) rest)
+      in_some a (creates_of s f first r) (creates_of_rows s f (suc first) rest)
       (subst (λ q. In a (creates_of s f first q)) (sym (some_is r row e)) (subst (λ k. In a (creates_of s f k row)) (let n : first + 0 ≡ first = omega arith in n) i))
   in_creates first (suc at) (r ∷ rest) row a e i =
-      in_more a (creates_of s f first r) (creates_from s f (suc first) rest)
+      in_more a (creates_of s f first r) (creates_of_rows s f (suc first) rest)
       (in_creates (suc first) at rest row a e (subst (λ k. In a (creates_of s f k row)) (let n : first + suc at ≡ suc first + at = omega arith in n) i))
 
   record CreatesAt (first : ℕ) (rows : List Placed) (a : Start) : Type 0 where
@@ -105,9 +105,9 @@ module _ (s : StackState) (f : Findings) where
     pub stands : slice_get rows at ≡ Some row
     pub is : In a (creates_of s f (first + at) row)
 
-  creates_in : (first : ℕ) (rows : List Placed) (a : Start) → In a (creates_from s f first rows) → CreatesAt first rows a
+  creates_in : (first : ℕ) (rows : List Placed) (a : Start) → In a (creates_of_rows s f first rows) → CreatesAt first rows a
   creates_in first [] a i = absurd (in_none i)
-  creates_in first (r ∷ rest) a i = elim (in_either a (creates_of s f first r) (creates_from s f (suc first) rest) i) [
+  creates_in first (r ∷ rest) a i = elim (in_either a (creates_of s f first r) (creates_of_rows s f (suc first) rest) i) [
     | inl j ↦ record { at = 0; row = r; stands = refl; is = subst (λ k. In a (creates_of s f k r)) (let n : first ≡ first + 0 = omega arith in n) j }
     | inr j ↦
         let w = creates_in (suc first) rest a j in
@@ -183,9 +183,9 @@ module _ (homes : List (List ℕ × List ℕ)) (s : StackState) (l : Layout) (f 
       by (Some row) t g =
           let w = found_in (fits_one homes) (creates_of s f at row) a g in record { row = row; stands = t; is = w.0; fits = w.1 }
 
-  pub first_by_name : (ascending : ascends l.places ≡ true) → AreRows (members_of s) l → AreFindings s f → (a : Start)
+  pub first_by_name : (ascending : ascends l.places ≡ true) → AreRows (source_members s) l → AreFindings s f → (a : Start)
       → first_named homes s l f l.places ≡ Some a
-      → IsFirst is_start_before starts_in_order (fits_one homes) (λ b. In b (creates_from s f 0 l.rows.items)) (Some a)
+      → IsFirst is_start_before starts_in_order (fits_one homes) (λ b. In b (creates_of_rows s f 0 l.rows.items)) (Some a)
   first_by_name ascending rows are a e = (in_creates s f 0 w.name.1 l.rows.items it.row a it.stands (subst (λ k. In a (creates_of s f k it.row)) (let n : w.name.1 ≡ 0 + w.name.1 = omega arith in n) it.is), it.fits, least)
     where
       w : IsNamed l.places a
@@ -201,7 +201,7 @@ module _ (homes : List (List ℕ × List ℕ)) (s : StackState) (l : Layout) (f 
           bytes_same w.name.0 at.0.path at.2 ∙ ap (λ (r : Placed). r.path) (some_is at.0 it.row (sym at.1 ∙ it.stands))
           ∙ (create_is s f w.name.1 it.row a it.is).0
 
-      least : (b : Start) → In b (creates_from s f 0 l.rows.items) → fits_one homes b ≡ true → is_start_before b a ≡ false
+      least : (b : Start) → In b (creates_of_rows s f 0 l.rows.items) → fits_one homes b ≡ true → is_start_before b a ≡ false
       least b i fits = false_from (is_start_before b a) (λ t. absurd (none-some there_is.0 (sym (nothing t) ∙ there_is.1)))
         where
           c : CreatesAt s f 0 l.rows.items b

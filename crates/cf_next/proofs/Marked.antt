@@ -18,7 +18,7 @@ use Rattle.cf_effect.specs.World.{StackState}
 use Rattle.cf_plan.specs.Follow.{is_free}
 use Rattle.cf_plan.proofs.FailedPaths.{put_is}
 use Rattle.cf_plan.proofs.Told.{any_filtered}
-use Rattle.cf_next.specs.Restoring.{AreMarksOf, is_marked, noting_call, noting_update, with_mark, with_marks}
+use Rattle.cf_next.specs.Restoring.{AreMarksOf, is_marked, noting_call, noting_update, mark_if, with_marks}
 use Rattle.cf_next.specs.declared.past.Past.{Past}
 
 or_none : (b : Bool) → b ≡ (b || false)
@@ -33,7 +33,7 @@ and_none : (a b : Bool) → b ≡ (b || (a && false))
 and_none true b = or_none b
 and_none false b = or_none b
 
-marked_more : (name k : List ℕ) (b : Bool) (marks : List (List ℕ × Bool)) → is_marked name (with_mark b k marks) ≡ (is_marked name marks || (b && bytes_eq name k))
+marked_more : (name k : List ℕ) (b : Bool) (marks : List (List ℕ × Bool)) → is_marked name (mark_if b k marks) ≡ (is_marked name marks || (b && bytes_eq name k))
 marked_more name k false marks = or_none (is_marked name marks)
 marked_more name k true marks = ap is_some (put_is name k true marks) ∙ by (bytes_eq name k) where
   by : (b : Bool) → is_some (cond b (Some true) (value_at name marks)) ≡ (is_marked name marks || b)
@@ -45,10 +45,10 @@ marked_more name k true marks = ap is_some (put_is name k true marks) ∙ by (by
 
 -- the keys of a list
 pub marked_keys : {A : Type 0} (key : A → List ℕ) (name : List ℕ) (xs : List A) (marks : List (List ℕ × Bool))
-    → is_marked name (fold (λ ms x. with_mark true (key x) ms) marks xs) ≡ (is_marked name marks || list_any (λ x. bytes_eq name (key x)) xs)
+    → is_marked name (fold (λ ms x. mark_if true (key x) ms) marks xs) ≡ (is_marked name marks || list_any (λ x. bytes_eq name (key x)) xs)
 marked_keys key name [] marks = or_none (is_marked name marks)
 marked_keys key name (x ∷ xs) marks =
-    marked_keys key name xs (with_mark true (key x) marks)
+    marked_keys key name xs (mark_if true (key x) marks)
     ∙ ap (λ b. b || list_any (λ y. bytes_eq name (key y)) xs) (marked_more name (key x) true marks)
     ∙ or_more (is_marked name marks) (bytes_eq name (key x)) (list_any (λ y. bytes_eq name (key y)) xs)
 

@@ -42,7 +42,7 @@ use Rattle.cf_effect.specs.Calls.{deletions_of, own_calls}
 use Rattle.cf_effect.specs.End.{is_physical_of}
 use Rattle.cf_effect.specs.Findings.{AreFindings, place_among}
 use Rattle.cf_effect.specs.Following.{kept_at}
-use Rattle.cf_effect.specs.Layout.{AreRows, is_row_of, members_of, path_at, users_at}
+use Rattle.cf_effect.specs.Layout.{AreRows, is_row_of, source_members, path_at, users_at}
 use Rattle.cf_effect.specs.Reply.{terms_of, wanted_in}
 use Rattle.cf_effect.specs.Status.{Back, Forward, Gone, Stage, stage_of}
 use Rattle.cf_effect.specs.Words.{current_at, deletes, has_physical, is_create, is_current_at, resource_at}
@@ -64,21 +64,21 @@ use Rattle.cf_next.specs.declared.unmaking.Unmaking.TheVariants as unmaking
 use Rattle.cf_next.specs.Chosen.{IsChosen}
 use Rattle.cf_next.specs.First.{call_in, first_start, fits_one, homes_now, is_start_before}
 use Rattle.cf_next.specs.Offer.{AreKeepings, AreStarts, IsOffer, MayBeginAt}
-use Rattle.cf_next.specs.Rollback.{AreNeeded, AreUnmarked, GoesByPlaces, IsTaken, TakesSure, deletion_of, has_user, is_alone, is_plain, is_marked, is_needed_at, is_sure, is_sure_of, is_sure_request, unmarked_start, unmarked_starts, was_tried, with_mark, with_need}
+use Rattle.cf_next.specs.Rollback.{AreMarkedNeeded, AreUnmarked, GoesByPlaces, IsTaken, TakesSure, deletion_of, has_user, is_alone, is_plain, is_marked_at, is_needed_at, is_sure, is_sure_of, is_sure_request, unmarked_start, unmarked_starts, was_tried, with_mark_at, with_need}
 use Rattle.cf_next.proofs.FirstBegun.{new_chosen}
 use Rattle.cf_next.proofs.Firsts.{IsFirst, first_is, starts_in_order}
 use Rattle.cf_next.proofs.Followed.{none_is}
 use Rattle.cf_next.proofs.Removing.{in_else, in_flat, in_joined, in_then, intends, no_turn, only_one}
 
 -- marks
-marked_set : (marks : List Bool) (i at : ℕ) → is_marked (set marks i true) at ≡ true → (at ≡ i) ⊎ (is_marked marks at ≡ true)
+marked_set : (marks : List Bool) (i at : ℕ) → is_marked_at (set marks i true) at ≡ true → (at ≡ i) ⊎ (is_marked_at marks at ≡ true)
 marked_set [] i at h = inr h
 marked_set (b ∷ bs) zero zero h = inl refl
 marked_set (b ∷ bs) zero (suc at) h = inr h
 marked_set (b ∷ bs) (suc i) zero h = inr h
 marked_set (b ∷ bs) (suc i) (suc at) h = elim (marked_set bs i at h) [ inl e ↦ inl (ap suc e) | inr m ↦ inr m ]
 
-marked_last : (marks : List Bool) (at : ℕ) → is_marked (marks ++ false ∷ []) at ≡ true → is_marked marks at ≡ true
+marked_last : (marks : List Bool) (at : ℕ) → is_marked_at (marks ++ false ∷ []) at ≡ true → is_marked_at marks at ≡ true
 marked_last [] zero h = h
 marked_last [] (suc at) h = h
 marked_last (b ∷ bs) zero h = h
@@ -86,10 +86,10 @@ marked_last (b ∷ bs) (suc at) h = marked_last bs at h
 
 pub none_marked_more : (old new : List Bool) → AreUnmarked old → new ≡ old ++ false ∷ [] → AreUnmarked new
 none_marked_more old new are e at =
-    false_from (is_marked new at) (λ t. not_both (is_marked old at) (marked_last old at (ap (λ ms. is_marked ms at) (sym e) ∙ t)) (are at))
+    false_from (is_marked_at new at) (λ t. not_both (is_marked_at old at) (marked_last old at (ap (λ ms. is_marked_at ms at) (sym e) ∙ t)) (are at))
 
-pub none_needed : (s : StackState) (marks : List Bool) → AreUnmarked marks → AreNeeded s marks
-none_needed s marks are = λ at r h i. absurd (not_both (is_marked marks at) h (are at))
+pub none_needed : (s : StackState) (marks : List Bool) → AreUnmarked marks → AreMarkedNeeded s marks
+none_needed s marks are = λ at r h i. absurd (not_both (is_marked_at marks at) h (are at))
 
 -- What the source says a path needs is what its shape says.
 needs_told : Option Terms → List (List ℕ)
@@ -108,28 +108,28 @@ needs_any None before path = refl
 needs_any (Some source) before path =
     wanted_needs (wanted_at path (plan_by source (shape_of source before) before)) ∙ ap needs_told (wanted_terms source before (shape_of source before) path)
 
-needs_of : (s : StackState) (path : List ℕ) (o : Option Member) → find (λ m. bytes_eq path m.path) (members_of s) ≡ o → needs_at path s ≡ needs_told (option_map member_terms o)
+needs_of : (s : StackState) (path : List ℕ) (o : Option Member) → find (λ m. bytes_eq path m.path) (source_members s) ≡ o → needs_at path s ≡ needs_told (option_map member_terms o)
 needs_of s path o e = needs_any s.going (seen_in s.before) path ∙ ap (λ p. needs_told (option_map member_terms p)) e
 
-needs_in : (s : StackState) (at : ℕ) (m : Member) → slice_get (members_of s) at ≡ Some m → needs_at m.path s ≡ m.needs
+needs_in : (s : StackState) (at : ℕ) (m : Member) → slice_get (source_members s) at ≡ Some m → needs_at m.path s ≡ m.needs
 unfolding needs_told
-needs_in s at m e = needs_of s m.path (Some m) (first_named (members_of s) at m (apart_in s) e)
+needs_in s at m e = needs_of s m.path (Some m) (first_named (source_members s) at m (apart_in s) e)
 
 -- What stands at a place that is kept of a path is the resource that is made there.
 module _ (s : StackState) (f : Findings) (are : AreFindings s f) where
   pub record MadeAt (at i : ℕ) : Type 0 where
     pub member : Member
-    pub stands : slice_get (members_of s) at ≡ Some member
+    pub stands : slice_get (source_members s) at ≡ Some member
     pub held : Held
     pub there : slice_get s.made i ≡ Some held
     pub current : current_at member.path s.made ≡ Some held
     pub path : member.path ≡ held.path
 
   made_at : (at i : ℕ) → kept_at f.made.items at ≡ Some i → MadeAt at i
-  made_at at i h = by (slice_get (members_of s) at) refl
-      (sym (ap (option_and_then (λ (o : Option ℕ). o)) (ap (λ os. slice_get os at) are.made ∙ slice_get-map (λ m. place_among m.path s.made) (members_of s) at)) ∙ h)
+  made_at at i h = by (slice_get (source_members s) at) refl
+      (sym (ap (option_and_then (λ (o : Option ℕ). o)) (ap (λ os. slice_get os at) are.made ∙ slice_get-map (λ m. place_among m.path s.made) (source_members s) at)) ∙ h)
     where
-      by : (o : Option Member) → slice_get (members_of s) at ≡ o → option_and_then (λ (k : Option ℕ). k) (option_map (λ m. place_among m.path s.made) o) ≡ Some i → MadeAt at i
+      by : (o : Option Member) → slice_get (source_members s) at ≡ o → option_and_then (λ (k : Option ℕ). k) (option_map (λ m. place_among m.path s.made) o) ≡ Some i → MadeAt at i
       by None e k = absurd (none-some i k)
       by (Some m) e k =
           let it = passes_at (is_current_at m.path) s.made i k in record {
@@ -141,21 +141,21 @@ module _ (s : StackState) (f : Findings) (are : AreFindings s f) where
             path = bytes_same m.path it.0.path (first_so (bytes_eq m.path it.0.path) (not it.0.superseded) it.2);
           }
 
-  module _ (l : Layout) (rows : AreRows (members_of s) l) where
-    path_there : (at : ℕ) (m : Member) → slice_get (members_of s) at ≡ Some m → path_at l.rows.items at ≡ m.path
+  module _ (l : Layout) (rows : AreRows (source_members s) l) where
+    path_there : (at : ℕ) (m : Member) → slice_get (source_members s) at ≡ Some m → path_at l.rows.items at ≡ m.path
     path_there at m h = or_path (slice_get l.rows.items at) (
         sym (slice_get-map (λ (r : Placed). r.path) l.rows.items at) ∙ ap (λ (ps : List (List ℕ)). slice_get ps at) rows.paths
-        ∙ slice_get-map (λ (n : Member). n.path) (members_of s) at ∙ ap (option_map (λ (n : Member). n.path)) h)
+        ∙ slice_get-map (λ (n : Member). n.path) (source_members s) at ∙ ap (option_map (λ (n : Member). n.path)) h)
       where
         or_path : (o : Option Placed) → option_map (λ (r : Placed). r.path) o ≡ Some m.path → option_map_or (λ r. r.path) o [] ≡ m.path
         or_path None e = absurd (none-some m.path e)
         or_path (Some r) e = same_Some r.path m.path e
 
     -- What is made of a path that needs another one is found among that one's users.
-    row_there : (at : ℕ) (m : Member) → slice_get (members_of s) at ≡ Some m → (r : Placed) × (slice_get l.rows.items at ≡ Some r)
+    row_there : (at : ℕ) (m : Member) → slice_get (source_members s) at ≡ Some m → (r : Placed) × (slice_get l.rows.items at ≡ Some r)
     row_there at m h = by (slice_get l.rows.items at) refl (
         sym (slice_get-map (λ (r : Placed). r.path) l.rows.items at) ∙ ap (λ (ps : List (List ℕ)). slice_get ps at) rows.paths
-        ∙ slice_get-map (λ (n : Member). n.path) (members_of s) at ∙ ap (option_map (λ (n : Member). n.path)) h)
+        ∙ slice_get-map (λ (n : Member). n.path) (source_members s) at ∙ ap (option_map (λ (n : Member). n.path)) h)
       where
         by : (o : Option Placed) → slice_get l.rows.items at ≡ o → option_map (λ (r : Placed). r.path) o ≡ Some m.path → (r : Placed) × (slice_get l.rows.items at ≡ Some r)
         by None e k = absurd (none-some m.path k)
@@ -188,25 +188,25 @@ module _ (s : StackState) (f : Findings) (are : AreFindings s f) where
             ∙ any_in (is_row_of q.path) q l.rows.items (at_in l.rows.items j q h) (same_bytes q.path)) (ap is_some e))
         by (Some k) e =
             let it = passes_at (is_row_of q.path) l.rows.items k e in
-            let mine = row_at (members_of s) l rows j q h in
-            let other = row_at (members_of s) l rows k it.0 it.1 in
-            ap (λ n. Some n) (one_place (members_of s) k j other.0 mine.0 (apart_in s) other.1 mine.1
+            let mine = row_at (source_members s) l rows j q h in
+            let other = row_at (source_members s) l rows k it.0 it.1 in
+            ap (λ n. Some n) (one_place (source_members s) k j other.0 mine.0 (apart_in s) other.1 mine.1
             (sym other.2 ∙ sym (bytes_same q.path it.0.path it.2) ∙ mine.2))
 
-    stands_so : (at : ℕ) (n : Member) (m : Held) → slice_get (members_of s) at ≡ Some n → In m s.made → is_current_at n.path m ≡ true → is_some (kept_at f.made.items at) ≡ true
+    stands_so : (at : ℕ) (n : Member) (m : Held) → slice_get (source_members s) at ≡ Some n → In m s.made → is_current_at n.path m ≡ true → is_some (kept_at f.made.items at) ≡ true
     stands_so at n m h i c =
-        ap is_some (ap (option_and_then (λ (o : Option ℕ). o)) (ap (λ os. slice_get os at) are.made ∙ slice_get-map (λ m. place_among m.path s.made) (members_of s) at
+        ap is_some (ap (option_and_then (λ (o : Option ℕ). o)) (ap (λ os. slice_get os at) are.made ∙ slice_get-map (λ m. place_among m.path s.made) (source_members s) at
         ∙ ap (option_map (λ m. place_among m.path s.made)) h))
         ∙ is_there (is_current_at n.path) s.made ∙ sym (any_found (is_current_at n.path) s.made) ∙ any_in (is_current_at n.path) m s.made i c
 
     pub user_found : (path : List ℕ) (m : Held) → In m s.made → m.superseded ≡ false → is_among path (needs_at m.path s) ≡ true → has_user l f path ≡ true
     unfolding needs_told
-    user_found path m i stands h = by (find (λ n. bytes_eq m.path n.path) (members_of s)) refl
+    user_found path m i stands h = by (find (λ n. bytes_eq m.path n.path) (source_members s)) refl
       where
-        at_member : (n : Member) (at : ℕ) → slice_get (members_of s) at ≡ Some n → bytes_eq m.path n.path ≡ true → is_among path n.needs ≡ true → has_user l f path ≡ true
+        at_member : (n : Member) (at : ℕ) → slice_get (source_members s) at ≡ Some n → bytes_eq m.path n.path ≡ true → is_among path n.needs ≡ true → has_user l f path ≡ true
         at_member n at there_is same among =
             let row = row_there at n there_is in
-            let it = row_at (members_of s) l rows at row.0 row.1 in
+            let it = row_at (source_members s) l rows at row.0 row.1 in
             let needs : map (path_at l.rows.items) row.0.needs.items ≡ n.needs = it.3 ∙ ap (λ (k : Member). k.needs) (same_Some it.0 n (sym it.1 ∙ there_is)) in
             let need = mapped_need path at row.0.needs.items it.4 (ap (is_among path) needs ∙ among) in
             let its = at_need need.0 at row.0 need.2 row.1 in
@@ -222,11 +222,11 @@ module _ (s : StackState) (f : Findings) (are : AreFindings s f) where
             ap (λ o. option_map_or (λ k. list_any (λ u. is_some (kept_at f.made.items u)) (users_at l k)) o false) place
             ∙ any_in (λ u. is_some (kept_at f.made.items u)) user.0 (users_at l need.0) user.1 so
 
-        by : (o : Option Member) → find (λ n. bytes_eq m.path n.path) (members_of s) ≡ o → has_user l f path ≡ true
+        by : (o : Option Member) → find (λ n. bytes_eq m.path n.path) (source_members s) ≡ o → has_user l f path ≡ true
         by None e = absurd (true≢false (sym h ∙ ap (is_among path) (needs_of s m.path None e)))
         by (Some n) e =
-            let it = found_one (λ k. bytes_eq m.path k.path) (members_of s) n e in
-            let at = in_place (members_of s) n it.0 in
+            let it = found_one (λ k. bytes_eq m.path k.path) (source_members s) n e in
+            let at = in_place (source_members s) n it.0 in
             at_member n at.0 at.1 it.1 (ap (is_among path) (sym (needs_of s m.path (Some n) e)) ∙ h)
 
     module _ (place j : ℕ) (row : Placed) (made : kept_at f.made.items place ≡ Some j) (is : slice_get l.rows.items place ≡ Some row) where
@@ -235,7 +235,7 @@ module _ (s : StackState) (f : Findings) (are : AreFindings s f) where
 
       needs_are : needs_at user.held.path s ≡ map (path_at l.rows.items) row.needs.items
       needs_are =
-          let it = row_at (members_of s) l rows place row is in
+          let it = row_at (source_members s) l rows place row is in
           ap (λ p. needs_at p s) (sym user.path) ∙ needs_in s place user.member user.stands
           ∙ ap (λ (m : Member). m.needs) (same_Some user.member it.0 (sym user.stands ∙ it.1)) ∙ sym it.3
 
@@ -259,23 +259,23 @@ module _ (s : StackState) (f : Findings) (are : AreFindings s f) where
           any_in (λ u. is_at_one (needs_at u.path s) s r) user.held s.made (at_in s.made j user.held user.there)
           (any_in (λ p. is_physical_of r.physical (resource_at p s)) (path_at l.rows.items q) (needs_at user.held.path s) mine so)
 
-      one_more : (q : ℕ) (marks : List Bool) → In q row.needs.items → AreNeeded s marks → (o : Option ℕ) → kept_at f.made.items q ≡ o → AreNeeded s (with_mark marks o)
+      one_more : (q : ℕ) (marks : List Bool) → In q row.needs.items → AreMarkedNeeded s marks → (o : Option ℕ) → kept_at f.made.items q ≡ o → AreMarkedNeeded s (with_mark_at marks o)
       one_more q marks m are None e = are
       one_more q marks m are (Some i) e = λ at r h k. elim (marked_set marks i at h) [
         | inl same ↦ need_needed q i m e r (ap (slice_get s.made) (sym same) ∙ k)
         | inr old ↦ are at r old k
       ]
 
-      all_more : (qs : List ℕ) → ((q : ℕ) → In q qs → In q row.needs.items) → (marks : List Bool) → AreNeeded s marks → AreNeeded s (fold (with_need f.made.items) marks qs)
+      all_more : (qs : List ℕ) → ((q : ℕ) → In q qs → In q row.needs.items) → (marks : List Bool) → AreMarkedNeeded s marks → AreMarkedNeeded s (fold (with_need f.made.items) marks qs)
       all_more [] sub marks are = are
       all_more (q ∷ qs) sub marks are =
           all_more qs (λ p i. sub p (there i)) (with_need f.made.items marks q) (one_more q marks (sub q here) are (kept_at f.made.items q) refl)
 
-pub row_marked : (s : StackState) (l : Layout) (f : Findings) (place j : ℕ) (row : Placed) (old new : List Bool) → AreRows (members_of s) l → AreFindings s f
-    → AreNeeded s old → kept_at f.made.items place ≡ Some j → slice_get l.rows.items place ≡ Some row
-    → new ≡ fold (with_need f.made.items) old row.needs.items → AreNeeded s new
+pub row_marked : (s : StackState) (l : Layout) (f : Findings) (place j : ℕ) (row : Placed) (old new : List Bool) → AreRows (source_members s) l → AreFindings s f
+    → AreMarkedNeeded s old → kept_at f.made.items place ≡ Some j → slice_get l.rows.items place ≡ Some row
+    → new ≡ fold (with_need f.made.items) old row.needs.items → AreMarkedNeeded s new
 row_marked s l f place j row old new rows are needed made is e =
-    subst (AreNeeded s) (sym e) (all_more s f are l rows place j row made is row.needs.items (λ q i. i) old needed)
+    subst (AreMarkedNeeded s) (sym e) (all_more s f are l rows place j row made is row.needs.items (λ q i. i) old needed)
 
 -- The deletions of what is not marked.
 starts_last : (s : StackState) (marks : List Bool) (first : ℕ) (rs : List Held) (r : Held)
@@ -308,25 +308,25 @@ both_from false true e = refl
 both_from false false e = absurd (true≢false e)
 
 unmarked_in : (s : StackState) (marks : List Bool) (rs : List Held) (first at : ℕ) (r : Held) → slice_get rs at ≡ Some r
-    → is_marked marks (first + at) ≡ false → is_free r.path s ≡ true → In (deletion_of r) (unmarked_starts s marks first rs)
+    → is_marked_at marks (first + at) ≡ false → is_free r.path s ≡ true → In (deletion_of r) (unmarked_starts s marks first rs)
 unmarked_in s marks [] first at r e h o = absurd (none-some r e)
 unmarked_in s marks (x ∷ rs) first zero r e h o =
     let same : x ≡ r = same_Some x r e in
-    let unmarked : is_marked marks first ≡ false = ap (is_marked marks) (let k : first ≡ first + 0 = omega arith in k) ∙ h in
+    let unmarked : is_marked_at marks first ≡ false = ap (is_marked_at marks) (let k : first ≡ first + 0 = omega arith in k) ∙ h in
     (in_joined (unmarked_start s marks first x) (unmarked_starts s marks (suc first) rs) (deletion_of r)).1
     (inl (subst (λ y. In (deletion_of r) (unmarked_start s marks first y)) (sym same)
-    ((in_else (is_marked marks first || not (is_free r.path s)) (deletion_of r ∷ []) (deletion_of r)).1
-    (either_false (is_marked marks first) (is_free r.path s) unmarked o, here))))
+    ((in_else (is_marked_at marks first || not (is_free r.path s)) (deletion_of r ∷ []) (deletion_of r)).1
+    (either_false (is_marked_at marks first) (is_free r.path s) unmarked o, here))))
 unmarked_in s marks (x ∷ rs) first (suc at) r e h o =
     (in_joined (unmarked_start s marks first x) (unmarked_starts s marks (suc first) rs) (deletion_of r)).1
-    (inr (unmarked_in s marks rs (suc first) at r e (ap (is_marked marks) (let k : suc first + at ≡ first + suc at = omega arith in k) ∙ h) o))
+    (inr (unmarked_in s marks rs (suc first) at r e (ap (is_marked_at marks) (let k : suc first + at ≡ first + suc at = omega arith in k) ∙ h) o))
 
 unmarked_of : (s : StackState) (marks : List Bool) (rs : List Held) (first : ℕ) (b : Start) → In b (unmarked_starts s marks first rs)
     → (r : Held) × In r rs × (is_free r.path s ≡ true) × (deletion_of r ≡ b)
 unmarked_of s marks [] first b i = absurd (in_none i)
 unmarked_of s marks (x ∷ rs) first b i = elim ((in_joined (unmarked_start s marks first x) (unmarked_starts s marks (suc first) rs) b).0 i) [
-  | inl j ↦ (let w = (in_else (is_marked marks first || not (is_free x.path s)) (deletion_of x ∷ []) b).0 j in
-      (x, here, both_from (is_marked marks first) (is_free x.path s) w.0, only_one (deletion_of x) b w.1))
+  | inl j ↦ (let w = (in_else (is_marked_at marks first || not (is_free x.path s)) (deletion_of x ∷ []) b).0 j in
+      (x, here, both_from (is_marked_at marks first) (is_free x.path s) w.0, only_one (deletion_of x) b w.1))
   | inr j ↦ (let w = unmarked_of s marks rs (suc first) b j in (w.0, there w.1, w.2, w.3))
 ]
 
@@ -365,7 +365,7 @@ both_false : (a b : Bool) → (a || b) ≡ false → (a ≡ false) × (b ≡ fal
 both_false true b e = absurd (true≢false e)
 both_false false b e = (refl, e)
 
-module _ (s : StackState) (l : Layout) (f : Findings) (rows : AreRows (members_of s) l) (are : AreFindings s f) (none_held : s.held ≡ [])
+module _ (s : StackState) (l : Layout) (f : Findings) (rows : AreRows (source_members s) l) (are : AreFindings s f) (none_held : s.held ≡ [])
     (plain : list_all is_plain s.made ≡ true) (r : Held) (sure : is_sure_of l f r.path r.physical s ≡ true) where
   alone : is_alone r.path r.physical s.made ≡ true
   alone = first_so (is_alone r.path r.physical s.made) (not (is_needed_at l f r.path s) && not (was_tried r.physical s)) sure
@@ -420,7 +420,7 @@ module _ (s : StackState) (l : Layout) (f : Findings) (rows : AreRows (members_o
 
 -- The offer of the rollback, of which only the first deletion is found.
 module _ (out : List ℕ) (x : World) (l : Layout) (f : Findings) (s : StackState) (marks : List Bool) (goes : GoesByPlaces out s)
-    (rows : AreRows (members_of s) l) (are : AreFindings s f) (needed : AreNeeded s marks) where
+    (rows : AreRows (source_members s) l) (are : AreFindings s f) (needed : AreMarkedNeeded s marks) where
   may : Held → Bool
   may r = is_free r.path s && (is_not_needed s r && is_untried s r)
 
@@ -511,8 +511,8 @@ module _ (out : List ℕ) (x : World) (l : Layout) (f : Findings) (s : StackStat
       let m = may_to w.0 w.2 in
       let at = in_place s.made w.0 w.1 in
       let unneeded : is_needed_by_made s w.0 ≡ false = (both_false (is_needed_by_made s w.0) (is_needed_by_create s w.0) (is_so _ m.1)).0 in
-      let unmarked : is_marked marks at.0 ≡ false = false_from (is_marked marks at.0) (λ t. not_both (is_needed_by_made s w.0) (needed at.0 w.0 t at.1) unneeded) in
-      subst (λ c. In c (unmarked_starts s marks 0 s.made)) w.3 (unmarked_in s marks s.made 0 at.0 w.0 at.1 (ap (is_marked marks) (let k : 0 + at.0 ≡ at.0 = omega arith in k) ∙ unmarked) m.0)
+      let unmarked : is_marked_at marks at.0 ≡ false = false_from (is_marked_at marks at.0) (λ t. not_both (is_needed_by_made s w.0) (needed at.0 w.0 t at.1) unneeded) in
+      subst (λ c. In c (unmarked_starts s marks 0 s.made)) w.3 (unmarked_in s marks s.made 0 at.0 w.0 at.1 (ap (is_marked_at marks) (let k : 0 + at.0 ≡ at.0 = omega arith in k) ∙ unmarked) m.0)
 
   found_begins : (b : Start) → In b (unmarked_starts s marks 0 s.made) → is_sure l f b s ≡ true → In b exact
   found_begins b i sure =
@@ -536,8 +536,8 @@ module _ (out : List ℕ) (x : World) (l : Layout) (f : Findings) (s : StackStat
       (found_begins a first.0 sure, first.1, λ b i u. first.2 b (begins_found b i) u) (λ j i. absurd (in_none i)) n c)
 
 pub deletion_taken : {E : Type 0} (out : List ℕ) (x : World) (l : Layout) (f : Findings) (s : StackState) (marks : List Bool) (made : List Held)
-    (lanes : List (List ℕ × List ℕ)) (starts : List Start) (a : Start) (res : Result (Option Next) E) → GoesByPlaces out s → AreRows (members_of s) l
-    → AreFindings s f → AreNeeded s marks → made ≡ s.made → starts ≡ unmarked_starts s marks 0 made → lanes ≡ homes_now out x
+    (lanes : List (List ℕ × List ℕ)) (starts : List Start) (a : Start) (res : Result (Option Next) E) → GoesByPlaces out s → AreRows (source_members s) l
+    → AreFindings s f → AreMarkedNeeded s marks → made ≡ s.made → starts ≡ unmarked_starts s marks 0 made → lanes ≡ homes_now out x
     → first_start lanes starts ≡ Some a → IfOk res (TakesSure l f lanes x s a) → IfOk res (IsTaken out x s)
 deletion_taken out x l f s marks made lanes starts a (Err e) goes rows are needed m d h g t = tt
 deletion_taken out x l f s marks made lanes starts a (Ok o) goes rows are needed m d h g t =

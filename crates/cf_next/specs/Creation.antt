@@ -84,9 +84,9 @@ known_at f at = option_and_then (λ e. e.known) (found_at f at)
 abbrev pub creates_of : StackState → Findings → ℕ → Placed → List Start
 creates_of s f at row = if may_create s f at row then create_at row.path row.kind (known_at f at) else []
 
-abbrev pub creates_from : StackState → Findings → ℕ → List Placed → List Start
-creates_from s f at [] = []
-creates_from s f at (row ∷ rows) = creates_of s f at row ++ creates_from s f (suc at) rows
+abbrev pub creates_of_rows : StackState → Findings → ℕ → List Placed → List Start
+creates_of_rows s f at [] = []
+creates_of_rows s f at (row ∷ rows) = creates_of s f at row ++ creates_of_rows s f (suc at) rows
 
 -- the create of the path at a place, where it may begin and a lane at home fits it
 abbrev pub fitting_at : List (List ℕ × List ℕ) → StackState → Layout → Findings → ℕ → Option Start

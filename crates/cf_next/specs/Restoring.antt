@@ -20,18 +20,18 @@ use Rattle.cf_next.specs.declared.past.Past.{Past}
 abbrev pub is_marked : List ℕ → List (List ℕ × Bool) → Bool
 is_marked name marks = is_some (value_at name marks)
 
-abbrev pub with_mark : Bool → List ℕ → List (List ℕ × Bool) → List (List ℕ × Bool)
-with_mark marked name marks = if marked then put name true marks else marks
+abbrev pub mark_if : Bool → List ℕ → List (List ℕ × Bool) → List (List ℕ × Bool)
+mark_if marked name marks = if marked then put name true marks else marks
 
 abbrev pub with_marks : List (List ℕ) → List (List ℕ × Bool) → List (List ℕ × Bool)
-with_marks names marks = fold (λ ms name. with_mark true name ms) marks names
+with_marks names marks = fold (λ ms name. mark_if true name ms) marks names
 
 -- what a call of an operation tells of the resource that it updates
 abbrev pub with_update : ℕ → Past → Call → List ℕ → Past
 with_update number past c physical = record past {
-  updated = with_mark (goes_forward c.status && succeeded c) physical past.updated;
-  restored = with_mark (goes_back c.status && succeeded c) physical past.restored;
-  tried = with_mark (c.number == number && goes_back c.status) physical past.tried;
+  updated = mark_if (goes_forward c.status && succeeded c) physical past.updated;
+  restored = mark_if (goes_back c.status && succeeded c) physical past.restored;
+  tried = mark_if (c.number == number && goes_back c.status) physical past.tried;
 }
 
 abbrev pub noting_update : ℕ → Past → Call → Request → Past

@@ -25,29 +25,29 @@ use Rattle.cf_next.specs.Chosen.{IsChosen}
 use Rattle.cf_next.specs.First.{call_in}
 
 -- Marks, by the places of what is made: where the resource of a need stands.
-abbrev pub is_marked : List Bool → ℕ → Bool
-is_marked marks at = unwrap_or (slice_get marks at) false
+abbrev pub is_marked_at : List Bool → ℕ → Bool
+is_marked_at marks at = unwrap_or (slice_get marks at) false
 
-abbrev pub with_mark : List Bool → Option ℕ → List Bool
-with_mark marks None = marks
-with_mark marks (Some at) = set marks at true
+abbrev pub with_mark_at : List Bool → Option ℕ → List Bool
+with_mark_at marks None = marks
+with_mark_at marks (Some at) = set marks at true
 
 abbrev pub with_need : List (Option ℕ) → List Bool → ℕ → List Bool
-with_need made marks need = with_mark marks (kept_at made need)
+with_need made marks need = with_mark_at marks (kept_at made need)
 
 abbrev pub AreUnmarked : List Bool → Type 0
-AreUnmarked marks = (at : ℕ) → is_marked marks at ≡ false
+AreUnmarked marks = (at : ℕ) → is_marked_at marks at ≡ false
 
 -- what is marked is needed by what is made
-abbrev pub AreNeeded : StackState → List Bool → Type 0
-AreNeeded s marks = (at : ℕ) (r : Held) → is_marked marks at ≡ true → slice_get s.made at ≡ Some r → is_needed_by_made s r ≡ true
+abbrev pub AreMarkedNeeded : StackState → List Bool → Type 0
+AreMarkedNeeded s marks = (at : ℕ) (r : Held) → is_marked_at marks at ≡ true → slice_get s.made at ≡ Some r → is_needed_by_made s r ≡ true
 
 -- the deletions of what is not marked, where no call is open; the first resource has this place
 abbrev pub deletion_of : Held → Start
 deletion_of r = record { path = r.path; request = request.Delete r.physical }
 
 abbrev pub unmarked_start : StackState → List Bool → ℕ → Held → List Start
-unmarked_start s marks at r = if is_marked marks at || not (is_free r.path s) then [] else deletion_of r ∷ []
+unmarked_start s marks at r = if is_marked_at marks at || not (is_free r.path s) then [] else deletion_of r ∷ []
 
 abbrev pub unmarked_starts : StackState → List Bool → ℕ → List Held → List Start
 unmarked_starts s marks at [] = []

@@ -1,6 +1,6 @@
 //! Names that are marked, to be looked up by name.
 ghost use Rattle.std.specs.Prelude.{◌≡◌, IfOk};
-ghost use Rattle.cf_next.specs.Restoring.{is_marked, with_mark, with_marks};
+ghost use Rattle.cf_next.specs.Restoring.{is_marked, mark_if, with_marks};
 
 use crate::lookups::LentMap;
 use cf_tree::{Names, Txt};
@@ -18,7 +18,7 @@ pub(crate) fn is_marked(marks: &Marks, name: &Txt) -> bool
 
 /// Marks a name, where it is to be marked. After an error nothing is said of the marks.
 pub(crate) fn mark<'a>(marks: &mut Marks<'a>, marked: bool, name: &'a Txt) -> Result<(), AllocError>
-    ensures { IfOk result (λ _. marks.new ≡ with_mark marked name.now marks.old) }
+    ensures { IfOk result (λ _. marks.new ≡ mark_if marked name.now marks.old) }
 {
     if marked {
         marks.insert(name, true)

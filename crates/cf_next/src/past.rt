@@ -5,7 +5,7 @@ ghost use Rattle.cf_effect.specs.Calls.{succeeded};
 ghost use Rattle.cf_effect.specs.Operation.{named_in, was_skipped};
 ghost use Rattle.cf_effect.specs.Status.{goes_back, goes_forward};
 ghost use Rattle.cf_plan.specs.Follow.{is_free};
-ghost use Rattle.cf_next.specs.Restoring.{AreMarksOf, is_marked, noting_call, with_mark, with_marks, with_update};
+ghost use Rattle.cf_next.specs.Restoring.{AreMarksOf, is_marked, noting_call, mark_if, with_marks, with_update};
 
 use crate::marks::{Marks, mark, mark_all};
 use cf_entry::{Begun, Entry, Status};
@@ -135,7 +135,7 @@ fn skipped_paths<'a>(alloc: Global, stack: &'a StackState) -> Result<Marks<'a>, 
 
 /// The paths of these open calls.
 fn paths_of<'a>(alloc: Global, tokens: &'a [Pending]) -> Result<Marks<'a>, AllocError>
-    ensures { IfOk result (λ marks. marks ≡ fold (λ ms (p : Open). with_mark true p.path ms) [] tokens.now) }
+    ensures { IfOk result (λ marks. marks ≡ fold (λ ms (p : Open). mark_if true p.path ms) [] tokens.now) }
 {
     let mut marks = Marks::new(alloc);
     for pending in tokens {

@@ -12,7 +12,7 @@ ghost use Rattle.cf_effect.specs.Words.{deletes, is_create};
 ghost use Rattle.cf_plan.specs.Asked.{request_of};
 ghost use Rattle.cf_plan.specs.Between.{needs_at};
 ghost use Rattle.cf_next.specs.First.{call_in, first_start, homes_now};
-ghost use Rattle.cf_next.specs.Rollback.{AreNeeded, AreUnmarked, GoesByPlaces, IsTaken, TakesSure, has_made, has_user, is_alone, is_plain, is_marked, is_needed_at, is_sure, is_sure_of, unmarked_start, unmarked_starts, was_tried, with_mark, with_need};
+ghost use Rattle.cf_next.specs.Rollback.{AreMarkedNeeded, AreUnmarked, GoesByPlaces, IsTaken, TakesSure, has_made, has_user, is_alone, is_plain, is_marked_at, is_needed_at, is_sure, is_sure_of, unmarked_start, unmarked_starts, was_tried, with_mark_at, with_need};
 
 use crate::deletions::waits;
 use crate::first::{LaneHome, first_start, homes_now, new_call};
@@ -26,8 +26,8 @@ use cf_tree::{Deletion, Request, Txt};
 use std::alloc::{AllocError, Global};
 
 /// Whether a place is marked.
-fn is_marked(marks: &[bool], at: usize) -> bool
-    ensures { result ≡ is_marked marks.now at }
+fn is_marked_at(marks: &[bool], at: usize) -> bool
+    ensures { result ≡ is_marked_at marks.now at }
 {
     match marks.get(at) {
         Some(marked) => *marked,
@@ -83,8 +83,8 @@ fn mark_row(
 )
     requires layout { IsLayoutOf stack.now.stack (Some layout.now) }
     requires findings { AreFindings stack.now.stack findings.now }
-    requires marks { AreNeeded stack.now.stack marks.old.items }
-    ensures { AreNeeded stack.now.stack marks.new.items }
+    requires marks { AreMarkedNeeded stack.now.stack marks.old.items }
+    ensures { AreMarkedNeeded stack.now.stack marks.new.items }
 {
     let made = findings.made.as_slice();
     match (kept_at(made, place), layout.row_at(place)) {
@@ -115,7 +115,7 @@ fn needed_by(
 ) -> Result<Vec<bool>, AllocError>
     requires layout { IsLayoutOf stack.now.stack (Some layout.now) }
     requires findings { AreFindings stack.now.stack findings.now }
-    ensures { IfOk result (λ marks. AreNeeded stack.now.stack marks.items) }
+    ensures { IfOk result (λ marks. AreMarkedNeeded stack.now.stack marks.items) }
 {
     let mut marks = no_marks(alloc, stack.made().len())?;
     for place in 0..layout.rows.len() {
@@ -134,7 +134,7 @@ fn add_unmarked<'a>(
 ) -> Result<(), AllocError>
     ensures { IfOk result (λ _. starts.new ≡ starts.old ++ unmarked_start stack.now.stack marks.now at held.now) }
 {
-    if is_marked(marks, at) || !is_free(stack, &held.path) {
+    if is_marked_at(marks, at) || !is_free(stack, &held.path) {
         return Ok(());
     }
     let physical = &held.physical;

@@ -60,4 +60,4 @@ pub mod FailedFound
 pub mod PropsStay
 pub mod RowsFound
 pub mod WholeFound
-mod Placed
+mod NameSets

@@ -32,7 +32,7 @@ use Rattle.cf_effect.proofs.Closed.{none_closed}
 use Rattle.cf_effect.specs.Begin.{seen_in}
 use Rattle.cf_effect.specs.End.{seen_now}
 use Rattle.cf_effect.specs.Findings.{AreFindings, place_among}
-use Rattle.cf_effect.specs.Layout.{AreRows, IsLayoutOf, is_row_of, members_of, path_at}
+use Rattle.cf_effect.specs.Layout.{AreRows, IsLayoutOf, is_row_of, source_members, path_at}
 use Rattle.cf_effect.specs.Reply.{terms_of, wanted_in}
 use Rattle.cf_effect.specs.Words.{current_at, is_current_at}
 use Rattle.cf_effect.specs.World.{StackState}
@@ -292,9 +292,9 @@ all_earlier : (k : ℕ) (js : List ℕ) → AllByRecursion (λ j. j < k) js → 
 all_earlier k [] a j i = absurd (in_none i)
 all_earlier k (x ∷ js) a j i = elim (in_cons i) [ inl e ↦ subst (λ y. y < k) e a.0 | inr m ↦ all_earlier k js a.1 j m ]
 
-module _ (s : StackState) (l : Layout) (f : Findings) (rows : AreRows (members_of s) l) (finds : AreFindings s f) where
+module _ (s : StackState) (l : Layout) (f : Findings) (rows : AreRows (source_members s) l) (finds : AreFindings s f) where
   abbrev ms : List Member
-  ms = members_of s
+  ms = source_members s
 
   -- the paths of the rows are those of the operation's template
   paths_are : map (λ r. r.path) l.rows.items ≡ wanted_paths s

@@ -7,8 +7,9 @@ ghost use Rattle.cf_plan.specs.Done.{AddsPath, AreDone, HasTerms, IsFresh, CanJo
 
 use crate::calls::is_good_update;
 use crate::found::is_right_at;
-use crate::index::{HeldIndex, NameIndex, PlanIndex};
+use crate::index::{NameIndex, PlanIndex};
 use cf_desired::Plan;
+use cf_effect::PathIndex;
 use cf_stacks::{Call, Held, StackState};
 use cf_tree::{Names, Txt};
 use std::alloc::{AllocError, Global};
@@ -86,7 +87,7 @@ fn is_fresh(
     alloc: Global,
     before: &PlanIndex,
     now: &PlanIndex,
-    held: &HeldIndex,
+    held: &PathIndex<Held>,
     done: &NameIndex,
     path: &Txt,
 ) -> Result<bool, AllocError>
@@ -105,7 +106,7 @@ fn add_one(
     alloc: Global,
     before: &PlanIndex,
     now: &PlanIndex,
-    held: &HeldIndex,
+    held: &PathIndex<Held>,
     done: &mut NameIndex,
     path: &Txt,
 ) -> Result<(), AllocError>
@@ -124,7 +125,7 @@ fn add_right(
     alloc: Global,
     before: &PlanIndex,
     now: &PlanIndex,
-    held: &HeldIndex,
+    held: &PathIndex<Held>,
     done: &mut NameIndex,
 ) -> Result<(), AllocError>
     ensures joined { IfOk result (λ _. Joined before.now now.now held.now done.old done.new) }
@@ -142,7 +143,7 @@ fn add_all_right(
     alloc: Global,
     before: &PlanIndex,
     now: &PlanIndex,
-    held: &HeldIndex,
+    held: &PathIndex<Held>,
     done: &mut NameIndex,
 ) -> Result<(), AllocError>
     ensures joined { IfOk result (λ _. Joined before.now now.now held.now done.old done.new) }
@@ -164,7 +165,7 @@ pub(crate) fn done_by<'a>(
     stack: &StackState,
     terms: &PlanIndex<'a>,
     now: &PlanIndex<'a>,
-    held: &HeldIndex,
+    held: &PathIndex<Held>,
 ) -> Result<NameIndex, AllocError>
     requires terms { HasTerms stack.now.stack terms.now }
     requires now { now.now ≡ plan_now stack.now.stack }
@@ -200,7 +201,7 @@ pub fn done_paths(
 {
     let before = PlanIndex::new(alloc, before)?;
     let now = PlanIndex::new(alloc, now)?;
-    let held = HeldIndex::new(alloc, stack.held().as_slice())?;
+    let held = PathIndex::new(alloc, stack.held().as_slice())?;
     let done = done_by(alloc, stack, &before, &now, &held)?;
     Ok(done.into_names())
 }

@@ -9,8 +9,9 @@ ghost use Rattle.cf_effect.specs.Words.{current_at};
 ghost use Rattle.cf_plan.specs.Forward.{Known, finding, finding_by, finding_over};
 ghost use Rattle.cf_plan.specs.Done.{IsHeldRight, IsFoundRight, finding_of};
 
-use crate::index::{HeldIndex, PlanIndex};
+use crate::index::PlanIndex;
 use cf_desired::{Evaluated, Flaw, Plan, Wanted};
+use cf_effect::PathIndex;
 use cf_stacks::{Held, current_at};
 use cf_tree::{Dict, Txt};
 use std::alloc::{AllocError, Global};
@@ -119,12 +120,12 @@ fn is_right(alloc: Global, wanted: Option<&Wanted>, held: Option<&Held>) -> Resu
 pub(crate) fn is_right_at(
     alloc: Global,
     plan: &PlanIndex,
-    helds: &HeldIndex,
+    helds: &PathIndex<Held>,
     path: &Txt,
 ) -> Result<bool, AllocError>
     ensures { IfOk result (λ right. IsTrue right ↔ IsHeldRight path.now plan.now helds.now) }
 {
-    is_right(alloc, plan.wanted_at(path), helds.current_at(path))
+    is_right(alloc, plan.wanted_at(path), helds.get(path))
 }
 
 /// Whether what is held at a path is sure and has the type and properties that a plan gives the path.

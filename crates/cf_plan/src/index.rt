@@ -1,13 +1,11 @@
-//! Plans, resources and names among which a path is looked up by halves.
+//! Plans and names among which a path is looked up by halves.
 ghost use Rattle.std.specs.Prelude.{◌≡◌, ◌++◌, ◌∷◌, [], IfOk, length};
 ghost use Rattle.std.specs.Option.{option_copied};
 ghost use Rattle.cf_tree.specs.Lists.{is_among};
-ghost use Rattle.cf_desired.specs.Whole.{is_wanted_at, wanted_at};
-ghost use Rattle.cf_effect.specs.Words.{current_at, is_current_at};
-ghost use Rattle.cf_plan.specs.Index.{ArePlaces, put_held, put_place};
+ghost use Rattle.cf_desired.specs.Whole.{wanted_at};
 
 use cf_desired::{Plan, Wanted};
-use cf_stacks::Held;
+use cf_effect::PathIndex;
 use cf_tree::{ByName, Names, Txt};
 use std::alloc::{AllocError, Global};
 use std::marker::Model;
@@ -16,7 +14,7 @@ use std::marker::Model;
 #[derive(Drop)]
 pub(crate) struct PlanIndex<'a> {
     plan: &'a Plan,
-    places: ByName<usize>,
+    wanted: PathIndex<'a, Wanted>,
 }
 
 impl<'a> Model for PlanIndex<'a> {
@@ -31,36 +29,9 @@ impl<'a> Model for PlanIndex<'a> {
 
     ghost view = { λ i. i.plan.now };
 
-    ghost use Rattle.cf_desired.specs.Whole.{is_wanted_at};
-    ghost use Rattle.cf_plan.specs.Index.{ArePlaces};
+    ghost use Rattle.std.specs.Prelude.{◌≡◌};
 
-    ghost invariant = { λ i. ArePlaces is_wanted_at i.plan.now.wanted i.places };
-}
-
-/// Resources with the places of those of their paths; contracts see them as the list.
-#[derive(Drop)]
-pub(crate) struct HeldIndex<'a> {
-    helds: &'a [Held],
-    places: ByName<usize>,
-}
-
-impl<'a> Model for HeldIndex<'a> {
-    ghost use Rattle.std.specs.Prelude.{List};
-    ghost use Rattle.cf_effect.specs.declared.held.Held as resource;
-
-    ghost Value = { List resource.Held };
-
-    ghost use Rattle.std.specs.Coded.{codes};
-    ghost use Rattle.cf_tree.specs.Datum.{data_code};
-
-    ghost coded = { Prim.hlevel (codes, data_code) };
-
-    ghost view = { λ i. i.helds.now };
-
-    ghost use Rattle.cf_effect.specs.Words.{is_current_at};
-    ghost use Rattle.cf_plan.specs.Index.{ArePlaces};
-
-    ghost invariant = { λ i. ArePlaces is_current_at i.helds.now i.places };
+    ghost invariant = { λ i. i.wanted ≡ i.plan.now.wanted };
 }
 
 /// Names in the order in which they came; contracts see them as the list.
@@ -82,70 +53,13 @@ impl Model for NameIndex {
     ghost invariant = { λ i. IsSetOf i.names.items i.set };
 }
 
-/// Puts a place under a path, unless there is one already. After an error nothing is said of the places.
-fn put_place(
-    alloc: Global,
-    places: &mut ByName<usize>,
-    path: &Txt,
-    at: usize,
-) -> Result<(), AllocError>
-    ensures { IfOk result (λ _. places.new ≡ put_place places.old path.now at) }
-{
-    if places.get(path.as_str()).is_some() {
-        Ok(())
-    } else {
-        places.insert(path.try_clone(alloc)?, at)
-    }
-}
-
-/// The places of the paths that are wanted, of two of one path the first.
-#[tactic(auto, using(crate::proofs::Placed::wanted_placed))]
-fn places_wanted(alloc: Global, all: &[Wanted]) -> Result<ByName<usize>, AllocError>
-    ensures { IfOk result (ArePlaces is_wanted_at all.now) }
-{
-    let mut places = ByName::new(alloc);
-    for (at, wanted) in all.iter().enumerate() {
-        put_place(alloc, &mut places, &wanted.path, at)?;
-    }
-    Ok(places)
-}
-
-/// Puts the place of a resource under its path, unless it is superseded or there is one already. After an error nothing is said
-/// of the places.
-fn put_held(
-    alloc: Global,
-    places: &mut ByName<usize>,
-    held: &Held,
-    at: usize,
-) -> Result<(), AllocError>
-    ensures { IfOk result (λ _. places.new ≡ put_held places.old held.now at) }
-{
-    if held.superseded {
-        Ok(())
-    } else {
-        put_place(alloc, places, &held.path, at)
-    }
-}
-
-/// The places of the resources of paths, of two of one path the first.
-#[tactic(auto, using(crate::proofs::Placed::held_placed))]
-fn places_held(alloc: Global, helds: &[Held]) -> Result<ByName<usize>, AllocError>
-    ensures { IfOk result (ArePlaces is_current_at helds.now) }
-{
-    let mut places = ByName::new(alloc);
-    for (at, held) in helds.iter().enumerate() {
-        put_held(alloc, &mut places, held, at)?;
-    }
-    Ok(places)
-}
-
 impl<'a> PlanIndex<'a> {
     /// A plan, to look up its paths.
     pub(crate) fn new(alloc: Global, plan: &'a Plan) -> Result<PlanIndex<'a>, AllocError>
         ensures { IfOk result (λ i. i ≡ plan.now) }
     {
-        let places = places_wanted(alloc, plan.wanted.as_slice())?;
-        Ok(PlanIndex { plan, places })
+        let wanted = PathIndex::new(alloc, plan.wanted.as_slice())?;
+        Ok(PlanIndex { plan, wanted })
     }
 
     /// The plan.
@@ -159,30 +73,7 @@ impl<'a> PlanIndex<'a> {
     pub(crate) fn wanted_at(&self, path: &Txt) -> Option<&'a Wanted>
         ensures { option_copied result ≡ wanted_at path.now self.now }
     {
-        match self.places.get(path.as_str()) {
-            Some(at) => self.plan.wanted.as_slice().get(*at),
-            None => None,
-        }
-    }
-}
-
-impl<'a> HeldIndex<'a> {
-    /// Resources, to look up those of paths.
-    pub(crate) fn new(alloc: Global, helds: &'a [Held]) -> Result<HeldIndex<'a>, AllocError>
-        ensures { IfOk result (λ i. i ≡ helds.now) }
-    {
-        let places = places_held(alloc, helds)?;
-        Ok(HeldIndex { helds, places })
-    }
-
-    /// The resource of a path.
-    pub(crate) fn current_at(&self, path: &Txt) -> Option<&'a Held>
-        ensures { option_copied result ≡ current_at path.now self.now }
-    {
-        match self.places.get(path.as_str()) {
-            Some(at) => self.helds.get(*at),
-            None => None,
-        }
+        self.wanted.get(path)
     }
 }
 

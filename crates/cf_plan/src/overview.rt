@@ -8,14 +8,15 @@ ghost use Rattle.cf_plan.specs.PathStates.{AreStatesOf};
 
 use crate::done::done_by;
 use crate::forward::Wants;
-use crate::index::{HeldIndex, PlanIndex};
+use crate::index::PlanIndex;
 use crate::path_state::{PathState, are_enough, done_by_places};
 use crate::starts::starts_over;
 use crate::states::states_by;
 use crate::stepping::{is_all_done, plan_now};
 use cf_desired::Plan;
+use cf_effect::PathIndex;
 use cf_schema::Schemas;
-use cf_stacks::{Findings, Layout, StackState};
+use cf_stacks::{Findings, Held, Layout, StackState};
 use cf_tree::ByName;
 use std::alloc::{AllocError, Global};
 
@@ -40,7 +41,7 @@ fn anew_by<'a>(
     schemas: &Schemas,
     stack: &StackState,
     now: &PlanIndex,
-    held: &HeldIndex,
+    held: &PathIndex<Held>,
 ) -> Result<Overview<'a>, AllocError>
     requires now { now.now ≡ plan_now stack.now.stack }
     requires held { held.now ≡ stack.now.stack.held }
@@ -77,7 +78,7 @@ fn anew_over<'a>(
     ensures { IfOk result (λ o. IsOverview schemas.now stack.now.stack o) }
 {
     let now = PlanIndex::new(alloc, now)?;
-    let held = HeldIndex::new(alloc, stack.held().as_slice())?;
+    let held = PathIndex::new(alloc, stack.held().as_slice())?;
     anew_by(alloc, schemas, stack, &now, &held)
 }
 

@@ -14,7 +14,7 @@ use crate::cause::{Failure, failure_by, failure_of_call, failure_of_flaw};
 use crate::done::done_by;
 use crate::failing::first_failing;
 use crate::forward::Wants;
-use crate::index::{HeldIndex, PlanIndex};
+use crate::index::PlanIndex;
 use crate::overview::Overview;
 use crate::path_flaws::first_ready_flaw;
 use crate::path_starts::starts_from_all;
@@ -22,9 +22,10 @@ use crate::path_state::{PathState, are_all_done_at};
 use crate::start::Starts;
 use crate::stepping::{has_nested, listed, plan_now};
 use cf_desired::Plan;
+use cf_effect::PathIndex;
 use cf_entry::Cause;
 use cf_schema::Schemas;
-use cf_stacks::{StackState, World};
+use cf_stacks::{Held, StackState, World};
 use cf_tree::{ByName, Txt};
 use std::alloc::{AllocError, Global};
 
@@ -45,7 +46,7 @@ fn failure_over(
     world: &World,
     stack: &StackState,
     now: &PlanIndex,
-    held: &HeldIndex,
+    held: &PathIndex<Held>,
 ) -> Result<Failure, AllocError>
     requires now { now.now ≡ plan_now stack.now.stack }
     requires held { held.now ≡ stack.now.stack.held }
@@ -68,7 +69,7 @@ fn failure_in(
     ensures { IfOk result (λ failure. IsFailureOf schemas.now name.now world.now.world stack.now.stack failure) }
 {
     let now = PlanIndex::new(alloc, now)?;
-    let held = HeldIndex::new(alloc, stack.held().as_slice())?;
+    let held = PathIndex::new(alloc, stack.held().as_slice())?;
     failure_over(alloc, schemas, name, world, stack, &now, &held)
 }
 

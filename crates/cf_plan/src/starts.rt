@@ -6,10 +6,11 @@ ghost use Rattle.cf_plan.specs.Starts.{AreRequests, may_start, starts_by, with_s
 
 use crate::done::are_met;
 use crate::forward::{Wants, is_free, wants_over};
-use crate::index::{HeldIndex, NameIndex, PlanIndex};
+use crate::index::{NameIndex, PlanIndex};
 use cf_desired::Plan;
+use cf_effect::PathIndex;
 use cf_schema::Schemas;
-use cf_stacks::StackState;
+use cf_stacks::{Held, StackState};
 use cf_tree::{ByName, Names, Txt};
 use std::alloc::{AllocError, Global};
 
@@ -27,7 +28,7 @@ fn add_start(
     stack: &StackState,
     before: &PlanIndex,
     now: &PlanIndex,
-    held: &HeldIndex,
+    held: &PathIndex<Held>,
     done: &NameIndex,
     starts: &mut ByName<Wants>,
     path: &Txt,
@@ -36,7 +37,7 @@ fn add_start(
     ensures { IfOk result (λ _. starts.new ≡ with_start schemas.now stack.now.stack before.now now.now done.now starts.old path.now) }
 {
     if may_start(stack, before, done, path) {
-        let (wanted, held) = (now.wanted_at(path), held.current_at(path));
+        let (wanted, held) = (now.wanted_at(path), held.get(path));
         let wants = wants_over(alloc, schemas, stack, path, wanted, held)?;
         let path = path.try_clone(alloc)?;
         starts.insert(path, wants)
@@ -52,7 +53,7 @@ fn starts_by(
     stack: &StackState,
     before: &PlanIndex,
     now: &PlanIndex,
-    held: &HeldIndex,
+    held: &PathIndex<Held>,
     done: &NameIndex,
 ) -> Result<ByName<Wants>, AllocError>
     requires { held.now ≡ stack.now.stack.held }
@@ -83,7 +84,7 @@ pub(crate) fn starts_over<'a>(
     stack: &StackState,
     terms: &PlanIndex<'a>,
     now: &PlanIndex<'a>,
-    held: &HeldIndex,
+    held: &PathIndex<Held>,
     done: &NameIndex,
 ) -> Result<ByName<Wants>, AllocError>
     requires terms { HasTerms stack.now.stack terms.now }
@@ -120,7 +121,7 @@ pub fn starts_of(
 {
     let before = PlanIndex::new(alloc, before)?;
     let now = PlanIndex::new(alloc, now)?;
-    let held = HeldIndex::new(alloc, stack.held().as_slice())?;
+    let held = PathIndex::new(alloc, stack.held().as_slice())?;
     let done = NameIndex::of(alloc, done)?;
     starts_over(alloc, schemas, stack, &before, &now, &held, &done)
 }

@@ -5,7 +5,7 @@ ghost use Rattle.cf_effect.specs.Calls.{new_call};
 ghost use Rattle.cf_effect.specs.Effect.{on_stack};
 ghost use Rattle.cf_effect.specs.Findings.{AreFindings, FindsAt};
 ghost use Rattle.cf_effect.specs.Fold.{effect_at, is_opening};
-ghost use Rattle.cf_effect.specs.Layout.{IsLayoutOf, members_of};
+ghost use Rattle.cf_effect.specs.Layout.{IsLayoutOf, source_members};
 ghost use Rattle.cf_effect.specs.End.{seen_now};
 ghost use Rattle.cf_effect.specs.Reply.{intending, terms_at};
 ghost use Rattle.cf_effect.specs.Bounds.{IsShortOutcomeOf};
@@ -433,7 +433,7 @@ impl StackState {
         at: usize,
     ) -> Result<Option<Found>, AllocError>
         requires { AreFindings self.now.stack findings.now }
-        ensures { IfOk result (λ found. (m : Member) → slice_get (members_of self.now.stack) at ≡ Some m
+        ensures { IfOk result (λ found. (m : Member) → slice_get (source_members self.now.stack) at ≡ Some m
             → FindsAt self.now.stack m.path found) }
     {
         find_at(alloc, &self.state, findings, at)

@@ -1,4 +1,4 @@
--- What the tests of rooms ask of a world.
+-- What the tests of rooms ask of a world (this project's own).
 use Rattle.std.specs.Prelude.{◌≡◌, ℕ, Bool, true, false, List, [], codes}
 use Rattle.std.specs.Option.{option_map_or}
 use Rattle.std.specs.Str.{bytes_eq}

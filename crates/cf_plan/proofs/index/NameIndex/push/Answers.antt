@@ -1,6 +1,6 @@
 use Rattle.std.proofs.Common.{◌∙◌, ◌++◌, ◌∷◌, ℕ, List, [], true, ap}
 use Rattle.cf_tree.specs.Keys.{put}
-use Rattle.cf_plan.proofs.Placed.{set_joined}
+use Rattle.cf_plan.proofs.NameSets.{set_joined}
 use Rattle.cf_plan.proofs.index.NameIndex.push.Goals as goal
 
 pub invariant_of-self-2 : goal.invariant_of-self-2
