@@ -8,7 +8,8 @@ use Rattle.cf_agree.specs.Lanes.{Lanes, live_in, used_in, settled_under, Replace
 use Rattle.cf_agree.specs.Ties.{FitsCall, IsAccounted, IsSettledCall, Ties, Books, IsMade, IsGone, IsChanged, IsBorn, IsLost}
 use Rattle.cf_tree.specs.{Lists.In, Named.all_differ}
 use Rattle.cf_tree.specs.declared.{request.Answer.Answer, request.Request.Request, request.Request.TheVariants.Create}
-use Rattle.cf_handler.specs.Fence.{FencedLane, Flying, live_at, CallMove, LateMove, settled_late, FenceMove, FenceAnswer, Raised, Ahead, Broken, with_flying, raised_to}
+use Rattle.cf_handler.specs.{declared.fence.FenceAnswer.FenceAnswer, declared.fence.FenceAnswer.TheVariants.Raised, declared.fence.FenceAnswer.TheVariants.Ahead, declared.fence.FenceAnswer.TheVariants.Fault}
+use Rattle.cf_handler.specs.Fence.{FencedLane, Flying, live_at, CallMove, LateMove, settled_late, FenceMove, with_flying, raised_to}
 use Rattle.cf_handler.specs.Lane.{LaneState, live_of, is_used, live_changed, Live, has_id, settlement_of}
 use Rattle.cf_handler.specs.declared.{settled.Settled.Settled, settled.Settlement.Settlement}
 use Rattle.cf_handler.specs.declared.settled.Settlement.TheVariants.{Success, Failed}
@@ -361,10 +362,12 @@ module _ (n : List ℕ) (l l' : FencedLane) (e t : ℕ) (r : Request) where
   by_moving (answer.Failed c) st m k = by_settling (Failed c) _ st refl m k
   by_moving answer.Fault st (inl m) k = alone (k ∙ ap (λ s. record l { state = s }) m)
   by_moving answer.Fault st (inr m) k = by_settling m.0 _ st refl m.2 k
+  by_moving (answer.Stale f) st m k = alone (k ∙ ap (λ s. record l { state = s }) m)
   by_moving answer.NoMemory st m k = alone (k ∙ ap (λ s. record l { state = s }) m)
 
   pub leaves : (x : Answer) → CallMove n l l' e t r x → Leaves n l l' e t r
   leaves answer.Fault m = elim m.1 [ inl z ↦ by_moving answer.Fault z.0 z.1 z.2 | inr z ↦ flown (unsettled t l.state.settled z.0) z.1 ]
+  leaves (answer.Stale f) m = alone m.2
   leaves answer.NoMemory m = alone m
   leaves x m = let (st, z, k) = m.1 in by_moving x st z k
 

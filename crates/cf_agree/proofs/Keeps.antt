@@ -1,5 +1,5 @@
 -- The laws.
-use Rattle.cf_agree.proofs.Calls.{each_lane, Leaves, leaves as call_leaves, settled, ties_alike, ties_called, ties_fenced, Alike, one_call, request_of, ties_late}
+use Rattle.cf_agree.proofs.Calls.{each_lane, Leaves, leaves as call_leaves, ties_alike, ties_called, ties_fenced, Alike, one_call, request_of, ties_late}
 use Rattle.cf_agree.proofs.Effects.{gone_names, set_names, made_success}
 use Rattle.cf_agree.proofs.Leases.{Stays, leased_still, leased_replied, leased_by, leased_returned, leased_granted}
 use Rattle.cf_agree.proofs.Words.{bytes_or, if_same, if_other, number_or, at_same, at_other, used_born, settled_as, entry_now, entry_still, unsettled}
@@ -11,16 +11,16 @@ use Rattle.cf_agree.specs.Moves.{MayBeWritten, stays, leaves, doubted, MayDrop, 
 use Rattle.cf_agree.specs.Ties.{Books, Ties, FitsCall, IsSettledCall, IsAccounted, IsMade, IsGone, IsChanged, IsBorn, IsLost, AreTied}
 use Rattle.cf_tree.specs.{Lists.In, declared.request.Answer.Answer, declared.request.Request.Request}
 use Rattle.cf_tree.specs.declared.request.Request.TheVariants.{Create, Update, Delete}
-use Rattle.cf_agree.specs.Laws.{Agrees, CallKeeps, StaleKeeps, LateKeeps, FenceKeeps, OpeningKeeps, RestKeeps, IntentKeeps, AnswerKeeps, ReturnKeeps, DropKeeps}
+use Rattle.cf_agree.specs.Laws.{Agrees, CallKeeps, LateKeeps, FenceKeeps, OpeningKeeps, RestKeeps, IntentKeeps, AnswerKeeps, ReturnKeeps, DropKeeps}
 use Rattle.cf_handler.specs.Answered.{settlement_in}
-use Rattle.cf_handler.specs.Fence.{Flying, FencedLane, CallMove, FenceMove, FenceAnswer, Raised, Ahead, Broken, settled_late}
+use Rattle.cf_handler.specs.{declared.fence.FenceAnswer.FenceAnswer, declared.fence.FenceAnswer.TheVariants.Raised, declared.fence.FenceAnswer.TheVariants.Ahead, declared.fence.FenceAnswer.TheVariants.Fault}
+use Rattle.cf_handler.specs.Fence.{Flying, FencedLane, CallMove, FenceMove, settled_late}
 use Rattle.cf_handler.specs.declared.{settled.Settled.Settled, settled.Settlement.Settlement}
 use Rattle.cf_handler.specs.declared.settled.Settlement.TheVariants.{Success, Failed}
 use Rattle.cf_handler.specs.{Lane.LaneState, Lane.Live, Lane.settlement_of, Move.IsOfLane, Move.SettlesBy, Move.with_settled}
 use Rattle.std.proofs.Common.{◌≡◌, ◌≢◌, inl, inr, ℕ, List, true, Some, None, refl, sym, ap, ◌∙◌, ◌⊎◌, ◌+◌, ◌≤◌, Bool, Option, subst, arith, ◌||◌, ◌&&◌, false, true≢false}
 use Rattle.std.specs.Prelude.{cond}
 use Rattle.cf_tree.specs.declared.code.Code.TheVariants as code
-use Rattle.cf_tree.specs.declared.request.Answer.TheVariants as answer
 
 -- What an answer does to the role of an id, and what the books say of calls on one id.
 
@@ -357,9 +357,6 @@ call_keeps a w w' ls l after x h mine there rep m = let b = (h.tied).books in re
   leased = leased_replied a w w' ls h.leased (by_leaving l.lane after w w' rep a.epoch l.token l.request (call_leaves l.lane (w.lane l.lane) after a.epoch l.token l.request x m)) l (settlement_in x) mine
       (λ y e. let (s, p, q) = answer_settled l.lane (w.lane l.lane) after a.epoch l.token l.request x y m e in (s, ap (λ (z : FencedLane). settled_at l.token z.state.settled) rep.at ∙ p, q));
 }
-
-pub stale_keeps : StaleKeeps
-stale_keeps a w w' ls l after fence h mine there rep m = grind arith
 
 pub late_keeps : LateKeeps
 late_keeps a w w' ls n after place x h there rep m = record {

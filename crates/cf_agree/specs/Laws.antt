@@ -1,10 +1,10 @@
 -- Every move of a lane, and every change of the account, keeps agreement and the leases (this project's own laws).
-use Rattle.std.specs.Prelude.{◌≡◌, ℕ, ◌+◌, Bool, true, false, List, [], Option, Some, None}
+use Rattle.std.specs.Prelude.{◌≡◌, ℕ, ◌+◌, Bool, true, false, List, [], Option, Some}
 use Rattle.cf_tree.specs.declared.request.Answer.{Answer}
-use Rattle.cf_tree.specs.declared.request.Answer.TheVariants as answer
 use Rattle.cf_handler.specs.declared.settled.Settlement.{Settlement}
 use Rattle.cf_handler.specs.Answered.{settlement_in}
-use Rattle.cf_handler.specs.Fence.{FencedLane, CallMove, IsStale, LateMove, FenceMove, FenceAnswer}
+use Rattle.cf_handler.specs.declared.fence.FenceAnswer.{FenceAnswer}
+use Rattle.cf_handler.specs.Fence.{FencedLane, CallMove, LateMove, FenceMove}
 use Rattle.cf_tree.specs.Lists.{In}
 use Rattle.cf_agree.specs.Lanes.{Lanes, IsThere, Replaced}
 use Rattle.cf_agree.specs.Account.{Role, Open, Account, opened, rested, intended, answered, dropped}
@@ -23,13 +23,6 @@ CallKeeps =
     → IsThere w l.lane
     → Replaced l.lane after w w' → CallMove l.lane (w.lane l.lane) after a.epoch l.token l.request x
     → Agrees a w' (leases_replied l.token (settlement_in x) ls)
-
--- a call whose opening is past
-abbrev pub StaleKeeps : Type 0
-StaleKeeps =
-    (a : Account) (w w' : Lanes) (ls : List CallOut) (l : CallOut) (after : FencedLane) (fence : ℕ) → Agrees a w ls → In l ls
-    → IsThere w l.lane
-    → Replaced l.lane after w w' → IsStale (w.lane l.lane) after a.epoch fence → Agrees a w' (leases_replied l.token None ls)
 
 -- a late effect
 abbrev pub LateKeeps : Type 0

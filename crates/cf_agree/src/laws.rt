@@ -1,16 +1,11 @@
 //! Laws about the agreement of journal and lanes. None of these functions does anything when it
 //! runs.
-ghost use Rattle.cf_agree.specs.Laws.{AnswerKeeps, CallKeeps, DropKeeps, FenceKeeps, IntentKeeps, LateKeeps, OpeningKeeps, RestKeeps, ReturnKeeps, StaleKeeps};
+ghost use Rattle.cf_agree.specs.Laws.{AnswerKeeps, CallKeeps, DropKeeps, FenceKeeps, IntentKeeps, LateKeeps, OpeningKeeps, RestKeeps, ReturnKeeps};
 
 /// A call that is out keeps agreement, whatever it answers: a success or a refusal of a new or of a
-/// settled token, want of memory, or a fault that did nothing, was settled, or may act later.
+/// settled token, that it is stale, want of memory, or a fault that did nothing, was settled, or may act later.
 pub fn call_keeps()
     ensures { CallKeeps }
-{}
-
-/// A call whose opening is past keeps agreement.
-pub fn stale_keeps()
-    ensures { StaleKeeps }
 {}
 
 /// A late effect keeps agreement, whichever leases are out.

@@ -9,11 +9,12 @@ use Rattle.cf_core.proofs.Statuses.{begun_status, ended_status, turned_status, b
 use Rattle.cf_core.proofs.MoreStacks.{completes_begun_stays, leaves_once_stays, lists_given_up_stays}
 use Rattle.cf_core.proofs.Cleanups.{back_tidying_begins, nothing_deleted, tidying_begins, cleaning_of, of_cleaning, of_cleaning_back, tidying_stays, tidying_ends}
 use Rattle.cf_core.proofs.MoreLives.{leases_once_stays, settles_once_stays, start_is_once}
+use Rattle.cf_core.proofs.{InFlight.leases_stay_open, NamedLanes.advancing, Tries.tries_stay_left}
 use Rattle.cf_core.proofs.HidCalls.{advancing_stays, none_is_ordered, order_stays}
 use Rattle.cf_core.proofs.Moving.{numbered_so, written_is_to, written_moves}
 use Rattle.cf_core.proofs.Stacks.{is_working, once_here, stands_on}
 use Rattle.cf_core.specs.StatusMoves.{StatusMoves, WrittenMovesStatus, stays, reviewed, creates, updates, deletes, continues, creation_back, created, unmade, unmaking_failed, cleans, updated, update_back, back_cleans, rolled_back, back_failed, deleted, deletion_failed}
-use Rattle.cf_core.specs.Theorem.{EventHolds, HoldsAlways, HoldsKeepsPromises, LivesKeepPromises, OperationsGoOn, StartHolds}
+use Rattle.cf_core.specs.Theorem.{EventHolds, EventsHold, HoldsAlways, HoldsKeepsPromises, LivesKeepPromises, OperationsGoOn, StartHolds}
 use Rattle.cf_core.specs.Unmade.{ClearedStays, EndsCleared, UnmakingBegins, UnmakingStays, leaves_nothing}
 use Rattle.cf_core.specs.Returning.{IsAfterBack, IsAfterBackClean, IsAfterFailed, IsAfterReturn}
 use Rattle.cf_core.specs.Moving.{begins, other, reviewed as is_reviewed}
@@ -359,6 +360,7 @@ way_kept schemas x out e name s t w described once k = record {
     ordered = order_stays schemas x out e name s t w k.supported.ordered;
     skips_none = updates_skip schemas x out e name s t w k.supported.skips_none;
     undeleted = nothing_deleted schemas x out e name s t w k.supported.undeleted;
+    tries = tries_stay_left schemas x out e name s t w k.supported.tries;
     told = told (goes_forward s.status) refl;
     completes = completes_begun_stays schemas x out e name s t w k.supported.completes;
     lists = lists_given_up_stays schemas x out e name s t w k.supported.lists;
@@ -366,13 +368,8 @@ way_kept schemas x out e name s t w described once k = record {
   };
 }
   where
-    advancing : (a : Status) → goes_forward a ≡ true → IsOnCourse schemas name x s a → (source : Source) × IsAdvancing schemas s source
-    advancing Status.CreateInProgress g c = (c.0, c.1)
-    advancing Status.UpdateInProgress g c = (c.0, c.1)
-    advancing a g c = absurd (true≢false (sym g))
-
     told : (b : Bool) → goes_forward s.status ≡ b → goes_forward t.status ≡ true → IsTold t
-    told true g h = let a = advancing s.status g k.course.stage in told_stays schemas x out e name s t a.0 w g h a.1 (k.supported.told g)
+    told true g h = let a = advancing schemas name x s s.status g k.course.stage in told_stays schemas x out e name s t a.0 w g h a.1 (k.supported.told g)
     told false g h = told_begins schemas x out e name s t w g h (none_open schemas name x s s.status t.status (status_moves schemas x out e name s t w) g h refl k.course.stage)
 
     stage : IsOnCourse schemas name (world_after x e) t t.status
@@ -425,6 +422,7 @@ module _ (schemas : List Schema) (l : Life) (h : HoldsAlways schemas l) where
     described = described_kept schemas l ev may h.sound.described h.described;
     leaves = apart ev may;
     leases = leases_once_stays schemas l ev may h.sound h.leases;
+    in_flight = leases_stay_open schemas l ev may h.sound h.way h.in_flight;
     settles = settles_once_stays schemas l ev may h.sound h.settles;
     way = ways ev may;
   }
@@ -441,6 +439,7 @@ starts_hold schemas l s = record {
   sound = start_is_sound_life schemas l s;
   described = start_described schemas l s;
   leases = (start_is_once schemas l s).0;
+  in_flight = λ k i. elim (subst (In k) s.no_leases i) [ ];
   leaves = subst (λ es. LeavesApart (fold_of empty_world es)) (sym s.no_entries) (λ n m d u v i. elim i [ ]);
   settles = (start_is_once schemas l s).1;
   way = λ name v there. none name v (ap (λ (es : List Entry). stack_at name (fold_of empty_world es)) (sym s.no_entries) ∙ there);
@@ -453,8 +452,11 @@ run : (schemas : List Schema) (events : List Event) (l end : Life) → HoldsAlwa
 run schemas [] l end h e = subst (HoldsAlways schemas) (sym e) h
 run schemas (ev ∷ evs) l end h (may, rest) = run schemas evs (life_after l ev) end (holds_after schemas l h ev may) rest
 
+pub events_hold : EventsHold
+events_hold schemas l end events h life_is = let k = run schemas events l end h life_is in (k, promises schemas end k)
+
 pub lives_keep_promises : LivesKeepPromises
-lives_keep_promises schemas start end events s life_is = let h = run schemas events start end (starts_hold schemas start s) life_is in (h, promises schemas end h)
+lives_keep_promises schemas start end events s life_is = events_hold schemas start end events (starts_hold schemas start s) life_is
 
 pub event_holds : EventHolds
 event_holds schemas l ev h may = holds_after schemas l h ev may

@@ -1,6 +1,6 @@
 -- Each row is the call that the journal has, and each resource was made by a create that was answered: each entry keeps that.
 use Rattle.std.proofs.Common.{◌≡◌, ◌⊎◌, inl, inr, ℕ, ◌+◌, List, [], ◌∷◌, ◌++◌, Bool, true, false, Option, Some, None, refl, sym, ap, subst, ◌∙◌, true≢false, find, arith, map, ◌==◌, not, ◌&&◌, ◌||◌, filter}
-use Rattle.cf_core.proofs.Words.{Account, Agrees, Answer, Answered, AreApart, AreOwn, AreSound, AreSteady, AreWritten, BecomesBy, Begun, Books, Call, CallEnd, Called, Cause, Data, Dict, Entry, GivenUp as LostCall, HaveOrigins, Held, In, IsGivenUpIn, IsLocal, IsMade, IsMadeBy, IsNew, HasNextNumber, IsOfItsLane, IsOfLane, IsOnce, IsOrderly, IsOutcomeOf, IsSteady, Lane, Lanes, Lease, Leftover as Left, MayDrop, MayFollow, MayKeep, StacksByName, OneStack, Open, Pending, Phase, Reply, Request, Resource, Response, Role, RoleMove, Row, Schema, Settled, Settlement, Source, StackState, Stage, Stale, Status, Thing, Ties, Why, World, account_of, account_with, all_differ, answered, answered_call, as_before, at_opening, bytes_eq, call_in, called_of, called_as, called_by, changed_by, closing, cond, creates_from, doubted, effect_at, settled_under, for_good, given_up, good_reply, has_leftover, has_physical, has_token, heard, held_in, here, id_named, is_among, is_at_rest, is_create_at, is_created, is_in_progress, is_opened_since, is_opening, is_restore, keeping_unknown, kept_role, known_stack, lane_of, lanes_of, lease_of, list_any, lost_create, lost_on, named_by, lane_types, named_lane, of_create, of_doubted, on_stack, open_as, open_in, option_map, option_or, other as is_other, own as is_own, pending_of, replied, reply_in, resources_of, resting_in, reviewed, role_found, role_in, role_on, skipped_creates, skipped_in, stack_for, stack_of_operation, there, thing_of, told_in, unknown_id, updates_from, where_call, world_after}
+use Rattle.cf_core.proofs.Words.{Account, Agrees, Answer, Answered, AreApart, AreOwn, AreSound, AreSteady, AreWritten, BecomesBy, Begun, Books, Call, CallEnd, Called, Cause, Data, Dict, Entry, GivenUp as LostCall, HaveOrigins, Held, In, IsGivenUpIn, IsLocal, IsMade, IsMadeBy, IsNew, HasNextNumber, IsOfItsLane, IsOfLane, IsOnce, IsOrderly, IsOutcomeOf, IsSteady, Lane, Lanes, Lease, Leftover as Left, MayDrop, MayFollow, MayKeep, StacksByName, OneStack, Open, Pending, Phase, Reply, Request, Resource, Response, Role, RoleMove, Row, Schema, Settled, Settlement, Source, StackState, Stage, Status, Thing, Ties, Why, World, account_of, account_with, all_differ, answered, answered_call, as_before, at_opening, bytes_eq, call_in, called_of, called_as, called_by, changed_by, closing, cond, creates_from, doubted, effect_at, settled_under, for_good, given_up, good_reply, has_leftover, has_physical, has_token, heard, held_in, here, id_named, is_among, is_at_rest, is_create_at, is_created, is_in_progress, is_opened_since, is_opening, is_restore, keeping_unknown, kept_role, known_stack, lane_of, lanes_of, lease_of, list_any, lost_create, lost_on, named_by, lane_types, named_lane, of_create, of_doubted, on_stack, open_as, open_in, option_map, option_or, other as is_other, own as is_own, pending_of, replied, reply_in, resources_of, resting_in, reviewed, role_found, role_in, role_on, skipped_creates, skipped_in, stack_for, stack_of_operation, there, thing_of, told_in, unknown_id, updates_from, where_call, world_after}
 use Rattle.cf_core.proofs.Lemmas.{map_in, any_of, bytes_eq-Decides, bytes_or, eq-eqb, eqb-true, find-append, find_mapped, found_one, in_back, in_either, in_filter, in_front, in_kept, in_more, in_one, into_mapped, is_found_in, list_any-append, one_id, one_number, or_left, or_right, other_bytes, put_else, put_here, some_is, some_of}
 use Rattle.cf_agree.specs.Moves.{GivenUp, stays}
 use Rattle.cf_core.proofs.{Stacks.call_more, Stacks.on_one, Stacks.open_of, Stacks.told_more, Stacks.IsOnOne, Stacks.stacks_after, Stacks.is_working, Stacks.not_resting, Stacks.once_here, Stacks.resting_same, Stacks.role_of, Stacks.role_now, Stacks.role_same, Stacks.told_same, Stacks.on_bool, Stacks.on_option, Outcomes.gone_without, Outcomes.keeps_known, Outcomes.kept_may, Outcomes.kept_moves, Outcomes.kept_stack, Outcomes.found_none, Outcomes.quiet_moves, Outcomes.alike_quiet, Outcomes.dropped_moves, Outcomes.passes, Outcomes.gives, Outcomes.Quiet, Outcomes.phase_moves, Outcomes.phase_quiet, Outcomes.done_moves, Outcomes.done_quiet, Outcomes.left_more, Statuses.intended_way, FitKept.IsLeftBy, FitKept.IsLess, FitKept.IsSameBut, FitKept.IsSameCall, FitKept.Key, FitKept.Stands, FitKept.fitting_lane, FitKept.gone as is_gone, FitKept.has_other, FitKept.in_keyed, FitKept.intends_named, FitKept.key_of, FitKept.keys_of, FitKept.known_steady, FitKept.left_by, FitKept.less_self, FitKept.made as is_made, FitKept.opening_less, FitKept.own_less, FitKept.rows_answered, FitKept.same as is_same, FitKept.same_call, FitKept.stack_known, FitKept.stands_by, FitKept.with_key, FitKept.at_known, FitKept.after_stacks, FitKept.differ_keyed, FitKept.keeps_skipped, FitKept.put_by, FitKept.after_lanes, FitKept.IsPlain, Settling.found_name, Settling.map_some, Settling.orderly_on, Settling.there_is, Settling.named_found, BlameStays.deleted_listed}
@@ -255,7 +255,7 @@ module _ (schemas : List Schema) (es : List Entry) (x : World) (lanes : List Lan
   settled_new e (Answered (Answer.Failed c) before after) k is = subst (λ d. IsNew x d × IsOfItsLane x d) (sym is) (tt, tt)
   settled_new e (Answered Answer.Fault before after) k is = subst (λ d. IsNew x d × IsOfItsLane x d) (sym is) (tt, tt)
   settled_new e (Answered Answer.NoMemory before after) k is = absurd is
-  settled_new e (Stale fence) k is = absurd is
+  settled_new e (Answered (Answer.Stale fence) before after) k is = absurd is
 
 -- What begins, and a change set, keep agreement, and take nothing of another stack.
 

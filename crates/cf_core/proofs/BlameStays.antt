@@ -22,6 +22,12 @@ module _ (n : ℕ) (es : List Entry) (e : Entry) (own : is_of n e ≡ true) wher
   pub told_more : {A : Type 0} (f : Entry → List A) → flat_map f (filter (is_of n) (es ++ e ∷ [])) ≡ flat_map f (filter (is_of n) es) ++ (f e ++ [])
   told_more f = ap (flat_map f) own_more ∙ flat_map-append f (filter (is_of n) es) (e ∷ [])
 
+-- an entry that names no path leaves the operation those that it names
+pub named_more : (n : ℕ) (es : List Entry) (e : Entry) → is_of n e ≡ true → named_in e ≡ []
+    → flat_map named_in (filter (is_of n) (es ++ e ∷ [])) ≡ flat_map named_in (filter (is_of n) es)
+named_more n es e own none =
+    told_more n es e own named_in ∙ ap (λ ns. flat_map named_in (filter (is_of n) es) ++ (ns ++ [])) none ∙ append-nil (flat_map named_in (filter (is_of n) es))
+
 -- What an entry of the operation leaves of its stack, before it is among the stack's own.
 pub record Leaves (s : StackState) (e : Entry) (u : StackState) : Type 0 where
   pub operation : u.operation ≡ s.operation
@@ -57,9 +63,7 @@ module _ (s : StackState) (h : IsBooked s) (going : is_in_progress s.status ≡ 
       ∙ ap (λ fs. fs ++ (failed_in e ++ [])) (h.none_failed going) ∙ append-nil (failed_in e)
 
   named_then : named_paths after ≡ named_paths s
-  named_then =
-      ap (flat_map named_in) own_is ∙ told_more s.operation s.entries e own named_in
-      ∙ ap (λ ns. named_paths s ++ (ns ++ [])) names_none ∙ append-nil (named_paths s)
+  named_then = ap (flat_map named_in) own_is ∙ named_more s.operation s.entries e own names_none
 
   pub booked_then : IsBooked after
   booked_then = record {

@@ -109,7 +109,7 @@ pub record Tidies (rs : List Held) (number : ℕ) (ps : List Pending) (cs : List
   pub calls : (p : Pending) → In p ps → Deletes rs p
   pub tried : (r : Held) → In r rs → AllTried number ps cs r.physical
 
-asks_for : (id : List ℕ) (r : Request) → deletes id r ≡ true → r ≡ Request.Delete id
+pub asks_for : (id : List ℕ) (r : Request) → deletes id r ≡ true → r ≡ Request.Delete id
 asks_for id r e = grind (arith, bytes_eq-Decides)
 
 -- That says what the counts say.
@@ -125,7 +125,7 @@ module _ (x : World) (s : StackState) (fits : Fits x s) where
       (p.one, p.of_list, subst (λ d. call_of p.one.token s ≡ Some d) same r.1, subst (IsRowOf p.one) same r.2)
 
   -- two open deletions of a resource are one
-  one_open : (id : List ℕ) (p q : Pending) → In p s.tokens → In q s.tokens → p.request ≡ Request.Delete id → q.request ≡ Request.Delete id → p ≡ q
+  pub one_open : (id : List ℕ) (p q : Pending) → In p s.tokens → In q s.tokens → p.request ≡ Request.Delete id → q.request ≡ Request.Delete id → p ≡ q
   one_open id p q i j e f =
       let a = fits.named p id i (ap id_named e) in
       let b = fits.named q id j (ap id_named f) in
@@ -447,13 +447,13 @@ none_called s number q none h = intended_way HasNoDeletion s h number q (λ c i 
 none_replied : (s : StackState) (token : ℕ) (a : Reply) (o : Option Pending) → HasNoDeletion s → HasNoDeletion (replied token a o s)
 none_replied s token a v3 h = grind (arith, answered_left, in_filter, in_changed, in_kept)
 
-turned_by : (place number : ℕ) (p : Phase) (c : Option Cause) (s : StackState)
+pub turned_by : (place number : ℕ) (p : Phase) (c : Option Cause) (s : StackState)
     → ((effect_at place (Entry.Phase number p c) s).stack.operation ≡ s.operation) × ((effect_at place (Entry.Phase number p c) s).stack.ledger ≡ map anew s.ledger)
     × ((effect_at place (Entry.Phase number p c) s).stack.status ≡ turned s.status p) × ((effect_at place (Entry.Phase number p c) s).stack.tokens ≡ s.tokens)
 turned_by place number p c s = grind arith
 
 -- as an operation begins all rows are of earlier ones
-none_begun : (name : List ℕ) (number place : ℕ) (k : Begun) (s : StackState) → ((c : Call) → In c s.ledger → c.number < number)
+pub none_begun : (name : List ℕ) (number place : ℕ) (k : Begun) (s : StackState) → ((c : Call) → In c s.ledger → c.number < number)
     → HasNoDeletion (effect_at place (Entry.Begin number name k) s).stack
 none_begun name number place k s low = grind (arith, in_filter, in_changed, eqb-true)
 

@@ -149,7 +149,7 @@ intent_going schemas x out apart number token lane path r (name, s, stage, at, i
     none (Some q) k = let (i, m) = found_one (has_token token) s.tokens q k in absurd (none_open x x s s (fit name s stands) token may.next q i (eqb-true token q.token m))
 
 -- the calls that are out are among those that count as out
-out_flies : (leases : List Lease) (l : Lease) → In l leases → is_in_flight (map (λ (z : Lease). z.token) leases) l.token ≡ true
+pub out_flies : (leases : List Lease) (l : Lease) → In l leases → is_in_flight (map (λ (z : Lease). z.token) leases) l.token ≡ true
 out_flies leases l i = any_of (λ t. l.token == t) (map (λ (z : Lease). z.token) leases) l.token (into_mapped (λ (z : Lease). z.token) leases l i) (eq-eqb l.token l.token refl)
 
 -- an answer is no opening

@@ -7,7 +7,7 @@ pub use Rattle.cf_entry.proofs.Codec.{some_is}
 pub use Rattle.cf_plan.proofs.{BlameMade.answered_left, BlameRows.into_mapped, BlameRows.none_below, BlameRows.refusal_fails}
 pub use Rattle.cf_plan.proofs.{Causing.map_in, CreatedEnd.in_changed, CreatedEnd.none_first}
 pub use Rattle.cf_plan.proofs.CreatedRight.{in_filter, none_kept, none_of, not_so, second_not}
-pub use Rattle.cf_plan.proofs.CreatedSeen.{shown, shown_at}
+pub use Rattle.cf_effect.proofs.Shown.{shown, shown_at}
 pub use Rattle.cf_plan.proofs.CreatedStays.{found_in, found_in_more, found_one, found_still, in_more, is_found}
 pub use Rattle.cf_plan.proofs.Differ.{differ_apart, differ_end, differ_less, differ_one, differ_rest, none_passes, one_id, one_number}
 pub use Rattle.cf_plan.proofs.FailedFound.{doubts_both, excused, failed_or, none_failing, not_thrice}

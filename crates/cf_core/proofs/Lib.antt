@@ -22,8 +22,12 @@ pub mod BlameFailed
 pub mod BeginEvents
 pub mod Always
 pub mod KeepSound
+pub mod Operations
+mod Tries
+mod InFlight
 mod MoreApart
 mod MoreLives
 mod MoreStacks
-mod OneThread
 pub mod GoingTold
+pub mod NamedLanes
+pub mod Rowed

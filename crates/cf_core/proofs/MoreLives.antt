@@ -1,6 +1,6 @@
 -- In a life no two calls that are out are of one token, and no lane settles a token twice.
 use Rattle.std.proofs.Common.{◌≡◌, ℕ, ◌≤◌, ◌==◌, List, [], ◌∷◌, ◌++◌, Bool, true, false, not, Option, Some, None, map, filter, refl, sym, ap, subst, ◌∙◌, true≢false, cond, arith}
-use Rattle.cf_core.proofs.Words.{Answer, Answered, CallEnd, CallMove, End, Entry, Event, FencedLane, Flying, In, IsSoundLife, Lane, LaneState, LateMove, Lease, LeasesOnce, LeasesOnceStays, Left, Life, Happens, MayLeave, Request, Schema, Settled, Settlement, SettlesBy, SettlesOnce, SettlesOnceStays, Stale, StartIsOnce, lane_acted, all_differ, appended, bytes_eq, changed, has_token, here, is_call, is_in_flight, lane_at, late_by, lease_for, left_by, life_after, raised_to, repeated, replied_to, settled_late, settlement_of, there, tokens_out, with_lease, world_of}
+use Rattle.cf_core.proofs.Words.{Answer, Answered, CallEnd, CallMove, End, Entry, Event, FencedLane, Flying, In, IsSoundLife, Lane, LaneState, LateMove, Lease, LeasesOnce, LeasesOnceStays, Left, Life, Happens, MayLeave, Request, Schema, Settled, Settlement, SettlesBy, SettlesOnce, SettlesOnceStays, StartIsOnce, lane_acted, all_differ, appended, bytes_eq, changed, has_token, here, is_call, is_in_flight, lane_at, late_by, lease_for, left_by, life_after, raised_to, repeated, replied_to, settled_late, settlement_of, there, tokens_out, with_lease, world_of}
 use Rattle.cf_core.proofs.Lemmas.{any_of, differ_end, differ_less, eq-eqb, eqb-true, found_one, in_changed, into_mapped, is_found_in, ne_eqb, one_id}
 use Rattle.cf_agree.proofs.Words.{bytes_same}
 use Rattle.cf_core.proofs.{Outcomes.token_of, Settling.again_is, Settling.may_again, Stacks.stands_on}
@@ -12,7 +12,7 @@ tokens_replied t r [] = refl
 tokens_replied t r (l ∷ ls) = grind (arith, tokens_replied t r ls)
 
 -- an append changes neither lanes nor leases
-appended_same : (end : End) (e : Entry) (m : Life) → ((appended end e m).leases ≡ m.leases) × ((appended end e m).lanes ≡ m.lanes)
+pub appended_same : (end : End) (e : Entry) (m : Life) → ((appended end e m).leases ≡ m.leases) × ((appended end e m).lanes ≡ m.lanes)
 appended_same end e m = grind arith
 
 module _ (schemas : List Schema) (l : Life) (h : IsSoundLife schemas l) (once : LeasesOnce l) where
@@ -96,7 +96,6 @@ module _ (schemas : List Schema) (l : Life) (h : IsSoundLife schemas l) (once : 
       by : (r : CallEnd) → MayLeave lane (left_by left (world_of l).epoch lease.token lease.request lane.state) (world_of l).epoch lease r → OnceOn lane.state
           → OnceOn (left_by left (world_of l).epoch lease.token lease.request lane.state)
       by (Answered x before counted) m o = called_once lane.name lane.state _ (world_of l).epoch lease.token lease.request x o m.1
-      by (Stale fence) m o = subst OnceOn (sym m.2) o
 
   same_lanes : {lanes : List Lane} → lanes ≡ l.lanes → (k : Lane) → In k lanes → OnceOn k.state
   same_lanes e k i = once k (subst (In k) e i)

@@ -55,7 +55,7 @@ module _ (schemas : List Schema) (x : World) (out : List ℕ) (name : List ℕ) 
       (is_reviewed number source rows outputs (subst (λ (p : List ℕ × StackState). IsTrue (creates_from p.1.status || updates_from p.1.status)) pair from))
   to_own e was q may = stepping e _ (λ m o. o) q may
 
-  becomes_to : (e : Entry) (t : StackState) → known_stack name x ≡ s → MayFollow schemas x out e → BecomesBy x e name s t → IsTo schemas x out name s e t
+  pub becomes_to : (e : Entry) (t : StackState) → known_stack name x ≡ s → MayFollow schemas x out e → BecomesBy x e name s t → IsTo schemas x out name s e t
   becomes_to e t was may (by_own q) = to_own e was q may
   becomes_to (Entry.Opened epoch lanes) t was may (by_opening q) = is_opened_to epoch lanes
   becomes_to e t was may (by_opening q) = absurd (true≢false (sym q))

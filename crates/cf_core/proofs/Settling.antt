@@ -1,8 +1,8 @@
 -- An outcome that is written down keeps what holds at each moment of a life.
 use Rattle.std.proofs.Common.{◌≡◌, ℕ, List, [], ◌∷◌, ◌++◌, map, refl, sym, subst, ◌≢◌, inl, inr, ◌==◌, true, false, not, Option, Some, None, filter, find, ap, ◌∙◌, true≢false, arith, ◌+◌, ◌&&◌}
-use Rattle.cf_core.proofs.Words.{Account, Act, Agrees, AgreesIn, Answer, Answered, AreHandedIn, AreTied, Books, BrokenWith, BrokenWithout, CallEnd, Close, Crash, End, Entry, FencedLane, FitsLane, Grant, Held, HeldIsLive, In, IsKindFor, IsLive, IsLocal, HasNextNumber, IsOfLane, IsOrderly, IsOut, IsOutcomeOf, IsSettledCall, IsSound, IsStart, IsThere, Lane, Lanes, LanesKeep, LanesOnce, Late, Lease as Granted, Life, Live, MayFollow, Happens, MayLeave, MayRepeat, StacksByName, OneStack, Open, Opened, OpenedKeeps, Park, Pending, Raise, RepeatKeeps, Replaced, Reply, Request, Resource, Schema, Settle, SettleKeeps, Settlement, StackState, Stage, Stale, Thing, Ties, Whole, World, account_of, account_with, bytes_eq, called_of, changed, changed_by, effect_at, empty_world, settled_under, first_again, first_so, fold_of, for_good, good_reply, has_token, heard, held_in, here, intended, is_at_rest, is_going, is_in_flight, is_lane_name, is_lane_of, is_opened_since, is_restore, lane_at, lane_of, lanes_of, late_by, lease_at, lease_for, lease_of, left_by, life_after, list_all, list_any, live_of, named_by, lane_types, no_lane, on_stack as stays_listed, open_as, open_in, open_on, option_map_or, option_or, pending_of, raised_to, repeated, replied as reply_of, resting_in, returned, role_in, second_so, settled_reply, stack_of_operation, there, thing_of, tokens_out, value_at, world_after, world_of}
+use Rattle.cf_core.proofs.Words.{Account, Act, Agrees, AgreesIn, Answer, Answered, AreHandedIn, AreTied, Books, BrokenWith, BrokenWithout, CallEnd, Close, Crash, End, Entry, FencedLane, FitsLane, Grant, Held, HeldIsLive, In, IsKindFor, IsLive, IsLocal, HasNextNumber, IsOfLane, IsOrderly, IsOut, IsOutcomeOf, IsSettledCall, IsSound, IsStart, IsThere, Lane, Lanes, LanesKeep, LanesOnce, Late, Lease as Granted, Life, Live, MayFollow, Happens, MayLeave, MayRepeat, StacksByName, OneStack, Open, Opened, OpenedKeeps, Park, Pending, Raise, RepeatKeeps, Replaced, Reply, Request, Resource, Schema, Settle, SettleKeeps, Settlement, StackState, Stage, Thing, Ties, Whole, World, account_of, account_with, bytes_eq, called_of, changed, changed_by, effect_at, empty_world, settled_under, first_again, first_so, fold_of, for_good, good_reply, has_token, heard, held_in, here, intended, is_at_rest, is_going, is_in_flight, is_lane_name, is_lane_of, is_opened_since, is_restore, lane_at, lane_of, lanes_of, late_by, lease_at, lease_for, lease_of, left_by, life_after, list_all, list_any, live_of, named_by, lane_types, no_lane, on_stack as stays_listed, open_as, open_in, open_on, option_map_or, option_or, pending_of, raised_to, repeated, replied as reply_of, resting_in, returned, role_in, second_so, settled_reply, stack_of_operation, there, thing_of, tokens_out, value_at, world_after, world_of}
 use Rattle.cf_core.proofs.Lemmas.{any_of, eq-eqb, find_mapped, found_one, found_stands, if_other, if_same, in_any, map-append, is_found_in, not-true, number_or, one_id, one_lane}
-use Rattle.cf_agree.proofs.Keeps.{call_keeps, stale_keeps, late_keeps, fence_keeps, return_keeps, opening_keeps, intent_keeps, answer_keeps}
+use Rattle.cf_agree.proofs.Keeps.{call_keeps, late_keeps, fence_keeps, return_keeps, opening_keeps, intent_keeps, answer_keeps}
 use Rattle.cf_agree.proofs.{Effects.gone_names, Effects.set_names, Leases.leased_granted, Words.bytes_same, Words.in_cons, Words.same_bytes}
 use Rattle.cf_agree.proofs.Calls.{request_of}
 use Rattle.cf_agree.specs.{Moves.CallOut, Moves.MayBeWritten, Moves.leases_granted, Moves.leases_replied}
@@ -102,7 +102,6 @@ lanes_keep schemas life (Act token reply left) of (lease, lane, found, rest, hom
           (subst (λ l. Rattle.cf_handler.specs.Fence.CallMove lease.lane l (change lane.state) (world_of life).epoch lease.token lease.request x) (sym is.1)
           (subst (λ n. Rattle.cf_handler.specs.Fence.CallMove n lane.state (change lane.state) (world_of life).epoch lease.token lease.request x)
           (sym (found_name lease.lane change lease.lane life.lanes lane home)) m.1)))
-      | Stale fence ↦ grind (arith, stale_keeps, mine)
     ]) leave
 lanes_keep schemas life (Late n place s) of may h =
     let is : IsThere (held_by life) n × ((held_by life).lane n ≡ may.0.state) = there_is life.lanes n may.0 may.1 in

@@ -67,7 +67,7 @@ pub use Rattle.cf_plan.specs.{Done.AreDone, Ends.IsBlamed, Ends.IsBlamedFor, End
 pub use Rattle.cf_plan.specs.{Lanes.AreLanes, Lanes.AreSchemas, Lanes.Lane, Lanes.lane_at, Promise.AreKept, Promise.Promised, Run.IsOwn}
 pub use Rattle.cf_plan.specs.Follow.{AreFailed, BeginsBy, EndsAs, FitsLane, HasLanes, IntendsDeletion, IntendsForward, IntendsIn, IntendsRestore, IsAtEnd, IsCounted, IsLaneFor, IsLegal, IsNamedLane, IsToRestore, MayBegin, MayDelete, MayFollow, MayFollowIn, MayFollowOn, MayIntend, MayKeep, MayRepeat, MayStep, MayTurn, WantsNew, WantsUpdate, begins_from, calls_in_flight, cleaned_in, continues_from, deletes_from, failed_in, failed_of, has_path, has_refused_restore, has_restore, is_bad_last, is_bad_outcome, is_cleared, is_done_entry, is_failed_path, is_failed_status, is_free, is_in_flight, is_lane_leased, is_lane_of, is_not_needed, is_not_updatable, is_opened_since, is_repeated, is_retained_or_excepted, is_to_retain, is_tried_less, is_untried, keeps, last_at, may_repeat, none_in_flight, restores_of, settled_by, updates_from, waits_for_repeats, was_not_updatable}
 pub use Rattle.cf_plan.specs.Forward.{AllDone, Bad, Finding, HasFailed, IsDone, IsReady, Known, Later, difference_to, evaluated_at, finding, held_before, is_conditional, is_excused, is_made, is_refused_call, is_right, is_updated, plan_in, plan_now, refusing, wanted_paths, was_answered_at, was_updated_at}
-pub use Rattle.cf_plan.specs.Life.{Act, Answered, AreHandedIn, Begin, BrokenWith, BrokenWithout, CallEnd, ChangeSet, Close, Crash, End, Event, Grant, IsBegin, IsChangeSet, IsGoing, IsGranted, IsLife, IsOutcomeOf, IsStart, Late, Lease, Life, Happens, MayLeave, Opened, Park, Raise, Repeat, Settle, Stale, Whole, lane_acted, appended, changed, first_again, granted, lease_at, lease_for, life_after, named_lane, repeated, replied_to, settled_reply, tokens_out, with_lease, world_of}
+pub use Rattle.cf_plan.specs.Life.{Act, Answered, AreHandedIn, Begin, BrokenWith, BrokenWithout, CallEnd, ChangeSet, Close, Crash, End, Event, Grant, IsBegin, IsChangeSet, IsGoing, IsGranted, IsLife, IsOutcomeOf, IsStart, Late, Lease, Life, Happens, MayLeave, Opened, Park, Raise, Repeat, Settle, Whole, lane_acted, appended, changed, first_again, granted, lease_at, lease_for, life_after, named_lane, repeated, replied_to, settled_reply, tokens_out, with_lease, world_of}
 pub use Rattle.cf_rests.specs.Views.{inner_at, inner_from, wanted_from}
 pub use Rattle.cf_schema.specs.{Change.any_differs, Change.difference_of, Kinds.found, declared.changed.Difference.Difference}
 pub use Rattle.cf_schema.specs.declared.changed.Difference.TheVariants.{MayReplace, Replace, Same, Update}

@@ -22,7 +22,7 @@ pub mod Moving
 pub mod GoesOn
 pub mod SoundLife
 pub mod OnCourse
+pub mod InFlight
 pub mod StatusMoves
 pub mod Theorem
 pub mod More
-pub mod OneThread

@@ -13,15 +13,16 @@ use Rattle.cf_core.specs.GoesOn.{IsTold}
 use Rattle.cf_core.specs.Hiding.{AreDescribed, IsOrdered}
 use Rattle.cf_core.specs.More.{CompletesBegun, LeavesOnce, ListsGivenUp}
 use Rattle.cf_core.specs.OneStack.{IsOnce}
-use Rattle.cf_core.specs.Tidying.{HasNoDeletion, deletes_nothing}
+use Rattle.cf_core.specs.Tidying.{HasNoDeletion, HasTriesLeft, deletes_nothing}
 
 -- what an operation rests on in all its stages: properties stand in order, an update that goes forward was not continued, nothing is
--- deleted before a cleanup, and entries and ledger of a forward phase say so of each other; what completed is what was begun, what was
--- given up is listed, and nothing is left over twice
+-- deleted before a cleanup, what an open call deletes was not refused three times, and entries and ledger of a forward phase say so of
+-- each other; what completed is what was begun, what was given up is listed, and nothing is left over twice
 pub record IsSupported (s : StackState) : Type 0 where
   pub ordered : IsOrdered s
   pub skips_none : s.status ≡ status.UpdateInProgress → SkipsNone s
   pub undeleted : deletes_nothing s.status ≡ true → HasNoDeletion s
+  pub tries : HasTriesLeft s
   pub told : goes_forward s.status ≡ true → IsTold s
   pub completes : CompletesBegun s
   pub lists : ListsGivenUp s

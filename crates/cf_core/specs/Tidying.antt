@@ -1,6 +1,6 @@
 -- Cleanups: what is deleted is tried until it is gone or kept, and at their end nothing of it is left (User Guide: stack updates,
 -- update rollbacks; that nothing is left is this project's own).
-use Rattle.std.specs.Prelude.{◌≡◌, ℕ, Bool, true, false, List, []}
+use Rattle.std.specs.Prelude.{◌≡◌, ℕ, ◌<◌, Bool, true, false, List, []}
 use Rattle.cf_tree.specs.declared.request.Request.TheVariants as request
 use Rattle.cf_tree.specs.declared.source.Source.{Source}
 use Rattle.cf_entry.specs.declared.entry.Entry.{Entry}
@@ -12,7 +12,7 @@ use Rattle.cf_effect.specs.declared.held.Held.{Held}
 use Rattle.cf_effect.specs.declared.held.Pending.{Pending}
 use Rattle.cf_effect.specs.World.{StackState, World}
 use Rattle.cf_effect.specs.Words.{deletes}
-use Rattle.cf_effect.specs.Calls.{own_calls}
+use Rattle.cf_effect.specs.Calls.{own_calls, refusals_of}
 use Rattle.cf_effect.specs.Status.{Stage, BackClean, Clean}
 use Rattle.cf_plan.specs.Follow.{cleaned_in}
 use Rattle.cf_tree.specs.Lists.{In}
@@ -24,6 +24,17 @@ use Rattle.cf_core.specs.Fits.{IsWritten}
 pub data IsCleanup : Stage → Status → Type 0 where
   of_update : IsCleanup Clean status.UpdateCompleteCleanupInProgress
   of_rollback : IsCleanup BackClean status.UpdateRollbackCompleteCleanupInProgress
+
+-- What an open call deletes was refused fewer than three times in its operation: after three refusals it may be kept, and no call on it
+-- is to be open then.
+abbrev pub HasTriesLeft : StackState → Type 0
+HasTriesLeft s = (p : Pending) (id : List ℕ) → In p s.tokens → p.request ≡ request.Delete id → refusals_of id s < 3
+
+-- each entry that is written keeps it so
+abbrev pub TriesStayLeft : Type 0
+TriesStayLeft =
+    (schemas : List Schema) (x : World) (out : List ℕ) (e : Entry) (name : List ℕ) (s t : StackState) → IsWritten schemas x out e name s t
+    → HasTriesLeft s → HasTriesLeft t
 
 -- these resources are cleaned up: each open call deletes one of them, and each is tried
 pub record IsTidying (rs : List Held) (s : StackState) : Type 0 where

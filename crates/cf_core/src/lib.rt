@@ -31,8 +31,8 @@ pub use hiding::{
 };
 pub use laws::{cleared_stays, ends_cleared, unmaking_begins, unmaking_stays, written_is_to};
 pub use more::{
-    completes_begun_stays, leases_once_stays, leaves_apart_stays, leaves_once_stays,
-    lists_given_up_stays, settles_once_stays, start_is_once,
+    completes_begun_stays, leases_once_stays, leases_stay_open, leaves_apart_stays,
+    leaves_once_stays, lists_given_up_stays, settles_once_stays, start_is_once,
 };
 pub use moves::{
     done_moves, doubt_moves, intent_moves, kept_may, kept_moves, one_is_put, opening_moves,
@@ -43,11 +43,11 @@ pub use returning::{
     updates_skip_none, updates_turn_back,
 };
 pub use theorem::{
-    cut_runs_keep_promises, event_holds, holds_keeps_promises, lives_keep_promises,
-    one_call_at_a_time, operations_go_on, runs_keep_promises, starts_hold, way_is_kept,
+    event_holds, events_hold, holds_keeps_promises, lanes_are_named, lives_keep_promises,
+    operations_go_on, starts_hold, way_is_kept,
 };
 pub use tidying::{
     back_tidying_begins, cleanup_goes_on, deletion_goes_on, forward_goes_on, nothing_deleted,
     operation_goes_on, rollback_goes_on, tidying_begins, tidying_ends, tidying_stays, told_begins,
-    told_stays,
+    told_stays, tries_stay_left,
 };

@@ -1,4 +1,5 @@
 //! What else holds at each moment of an engine's life. None of these functions does anything when it runs.
+ghost use Rattle.cf_core.specs.InFlight.{LeasesStayOpen};
 ghost use Rattle.cf_core.specs.More.{
   CompletesBegunStays,
   LeasesOnceStays,
@@ -32,6 +33,12 @@ pub fn leaves_apart_stays()
 /// No two calls that are out are of one token.
 pub fn leases_once_stays()
     ensures { LeasesOnceStays }
+{}
+
+/// Each call that is out is open, on the stack of its operation, and may be made again once it is back: so none is given up before it
+/// is back, and its outcome may be written.
+pub fn leases_stay_open()
+    ensures { LeasesStayOpen }
 {}
 
 /// No lane settles a token twice.

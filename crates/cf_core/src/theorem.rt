@@ -1,7 +1,6 @@
 //! The theorem: what holds at every moment of an engine's life. None of these functions does anything when it runs.
 ghost use Rattle.cf_core.specs.OnCourse.{WayIsKept};
-ghost use Rattle.cf_core.specs.OneThread.{CutRunsKeepPromises, OneCallAtATime, RunsKeepPromises};
-ghost use Rattle.cf_core.specs.Theorem.{EventHolds, HoldsKeepsPromises, LivesKeepPromises, OperationsGoOn, StartHolds};
+ghost use Rattle.cf_core.specs.Theorem.{EventHolds, EventsHold, HoldsKeepsPromises, LanesAreNamed, LivesKeepPromises, OperationsGoOn, StartHolds};
 
 /// From every start, after every list of events of an engine's life each of which may happen in its turn, journal and lanes
 /// agree and each stack keeps what its status promises.
@@ -27,6 +26,12 @@ pub fn event_holds()
     ensures { EventHolds }
 {}
 
+/// What holds at a moment holds after each list of events, each of which may happen in its turn, and each stack then keeps what its
+/// status promises.
+pub fn events_hold()
+    ensures { EventsHold }
+{}
+
 /// Where it holds, each stack keeps what its status promises.
 pub fn holds_keeps_promises()
     ensures { HoldsKeepsPromises }
@@ -37,23 +42,14 @@ pub fn way_is_kept()
     ensures { WayIsKept }
 {}
 
-/// After every run of commands on one thread each stack keeps what its status promises.
-pub fn runs_keep_promises()
-    ensures { RunsKeepPromises }
-{}
-
-/// So it does at each moment of one, wherever it is cut short.
-pub fn cut_runs_keep_promises()
-    ensures { CutRunsKeepPromises }
-{}
-
-/// Before and after each thing that one thread does no call is out.
-pub fn one_call_at_a_time()
-    ensures { OneCallAtATime }
-{}
-
 /// At every moment of a life each operation in progress goes on until its end, nested sources included: where no call is out,
 /// some entry of it may follow or some open call may be made again, as long as each type that its template wants has a lane.
 pub fn operations_go_on()
     ensures { OperationsGoOn }
+{}
+
+/// At every moment of a life the last opening named the lane of each resource of a stack, with its type; and, while the stack goes
+/// forward, that of each resource from before the operation, for all of them are still held.
+pub fn lanes_are_named()
+    ensures { LanesAreNamed }
 {}

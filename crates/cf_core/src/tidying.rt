@@ -1,10 +1,15 @@
 //! Laws about cleanups, and that an operation goes on until its end. None of these functions does anything when it runs.
 ghost use Rattle.cf_core.specs.GoesOn.{CleanupGoesOn, DeletionGoesOn, ForwardGoesOn, OperationGoesOn, RollbackGoesOn, ToldBegins, ToldStays};
-ghost use Rattle.cf_core.specs.Tidying.{BackTidyingBegins, NothingDeleted, TidyingBegins, TidyingEnds, TidyingStays};
+ghost use Rattle.cf_core.specs.Tidying.{BackTidyingBegins, NothingDeleted, TidyingBegins, TidyingEnds, TidyingStays, TriesStayLeft};
 
 /// An operation has deleted nothing as it begins, and deletes nothing while it goes forward or gives back.
 pub fn nothing_deleted()
     ensures { NothingDeleted }
+{}
+
+/// What an open call deletes was refused fewer than three times in its operation.
+pub fn tries_stay_left()
+    ensures { TriesStayLeft }
 {}
 
 /// The cleanup of an update begins with no call open and nothing tried.

@@ -2,25 +2,26 @@
 #![tactic(auto)]
 
 ghost use Rattle.std.specs.Prelude.{◌≡◌, ◌++◌, ◌∷◌, [], ◌&&◌, ℕ, List, IsTrue, false, true, IfOk, IfErr, codes, length, map, nat_lt, string_bytes};
+ghost use Rattle.cf_io.specs.Stores.{folder_of};
+ghost use Rattle.cf_disk.specs.Memory.{IsFresh};
 ghost use Rattle.cf_handler.specs.Name.{is_lane_name};
-ghost use Rattle.cf_top.specs.Lanes.{unused};
-ghost use Rattle.cf_face.specs.Exit.{exit_line};
-ghost use Rattle.cf_face.specs.Print.{PrintTells};
+ghost use Rattle.cf_fake.specs.Kept.{kept_of};
 ghost use Rattle.cf_face.specs.Words.{are_short, is_in_form, is_command_line};
-ghost use Rattle.cf_engine.specs.Program.{IsRun, IsWordless, program_names, program_schemas};
-ghost use Rattle.cf_face.specs.declared.exit.Exit.TheVariants.{BadWords};
+ghost use Rattle.cf_lane.specs.Lanes.{lane_with};
+ghost use Rattle.cf_engine.specs.Program.{AreNew, IsNoCommandLine, IsWordless, RunsAs, StartsAs, exit_of, folder_named, new_lane};
 
 use cf_disk::{Disk, MemoryDisk};
 use cf_face::{Exit, print_exit, print_text, read_workers};
 use cf_fake::MemoryHandler;
 use cf_handler::{Handler, file_schema, record_schema};
-use cf_io::{FolderLibrary, Sink, StdoutSink};
+use cf_io::{FolderLibrary, Library, Sink, StdoutSink};
 use cf_schema::Schema;
 pub use cf_top::{Ended, alone, answer, cfstack};
 use cf_tree::{Listing, NoMemory, Txt};
 use std::alloc::Global;
 use std::io::ErrorKind;
 use std::process::ExitCode;
+use std::rt::Files;
 use std::{env, io};
 
 /// The words of a command line have fewer bytes than this together.
@@ -59,15 +60,45 @@ const USAGE: &str = "usage: cfstack HOME WORKERS WORD ..\
 \n  10 NotAJournal      the disk holds something else than a journal\
 \n  11 LaneMissing      a lane that the journal needs is not there\
 \n  11 LaneTwice        two lanes have one name\
+\n  12 LaneAhead        a lane takes no calls of this opening, only of later ones\
+\n  13 LaneFault        a lane failed as the journal was opened\
 \n  14 Full             the journal has no room for its next entry\n";
 
 fn main(rt: HostRuntime) -> ExitCode {
     let mut out = StdoutSink::new(io::writer(&rt));
     let exit = match words_of(&rt) {
-        Ok(words) => run(rt, words.as_slice(), &mut out),
+        Ok(words) => start(rt, words.as_slice(), &mut out),
         Err(exit) => print_exit(rt.alloc(), &mut out, exit),
     };
     ExitCode::from(exit.number())
+}
+
+/// Does what the whole command line says, over the templates of the folder that it names.
+fn start<R: Files + AllocGlobal + Drop, K: Sink>(rt: R, words: &[Txt], out: &mut K) -> Exit
+    ensures { StartsAs folder_of ⟦<FolderLibrary<R> as Library>⟧ ⟦<MemoryDisk as Disk>⟧ ⟦<MemoryHandler as Handler>⟧
+        (record { held = K.held out.old; held' = K.held out.new; faults = K.count out.old; faults' = K.count out.new }) words.now result }
+{
+    let alloc = rt.alloc();
+    match name_folder(alloc, words) {
+        Ok(folder) => {
+            let mut library = FolderLibrary::new(rt, folder);
+            exit_of(run(alloc, words, &mut library, out))
+        }
+        Err(NoMemory) => print_exit(alloc, out, Exit::NoMemory),
+    }
+}
+
+/// The folder of the templates: that of the folder which the words name first.
+fn name_folder(alloc: Global, words: &[Txt]) -> Result<String, NoMemory>
+    ensures { IfOk result (λ folder. string_bytes folder ≡ folder_named words.now) }
+{
+    let home = match words.first() {
+        Some(home) => home.as_str(),
+        None => "",
+    };
+    let mut folder = String::from_str(alloc, home)?;
+    folder.push_str("/templates")?;
+    Ok(folder)
 }
 
 /// The words of the command line behind the program's name.
@@ -93,21 +124,60 @@ fn words_of(rt: &HostRuntime) -> Result<Vec<Txt>, Exit>
     Ok(words)
 }
 
-/// Does what the whole command line says.
-fn run<K: Sink>(rt: HostRuntime, words: &[Txt], out: &mut K) -> Exit
-    ensures bad_words { is_command_line words.now ≡ false →
-        PrintTells (K.held out.old) (K.held out.new) (K.count out.old) (K.count out.new) (exit_line BadWords) BadWords result }
-    ensures runs { (home workers : List ℕ) (rest : List (List ℕ)) → words.now ≡ home ∷ workers ∷ rest → is_in_form home workers words.now ≡ true →
-        IsRun (record { held = K.held out.old; held' = K.held out.new; faults = K.count out.old; faults' = K.count out.new }) rest result }
+/// Does what the whole command line says over a library of templates, a new disk and four lanes, these in memory, and gives back how that
+/// ended, with the disk and the lanes. Where nothing was run it answers the exit alone: of `--help` and `--version`, of words that are no
+/// command line (`bad_words`), and where there was no memory for a disk and lanes.
+///
+/// A command line in form comes to what `cfstack` says of the words behind HOME and WORKERS, and disk and lanes agree after it (`runs`).
+fn run<L: Library, K: Sink>(
+    alloc: Global,
+    words: &[Txt],
+    library: &mut L,
+    out: &mut K,
+) -> Result<Ended<MemoryDisk, MemoryHandler>, Exit>
+    ensures same { L.texts library.new ≡ L.texts library.old }
+    ensures bad_words { is_command_line words.now ≡ false → IsNoCommandLine (record {
+      texts = L.texts library.old;
+      faults = L.count library.old;
+      faults' = L.count library.new;
+      misses = L.missed library.old;
+      misses' = L.missed library.new;
+    })
+        (record { held = K.held out.old; held' = K.held out.new; faults = K.count out.old; faults' = K.count out.new }) result }
+    ensures runs { (home workers : List ℕ) (rest : List (List ℕ)) → words.now ≡ home ∷ workers ∷ rest
+        → is_in_form home workers words.now ≡ true → RunsAs ⟦<MemoryDisk as Disk>⟧ ⟦<MemoryHandler as Handler>⟧ (record {
+          texts = L.texts library.old;
+          faults = L.count library.old;
+          faults' = L.count library.new;
+          misses = L.missed library.old;
+          misses' = L.missed library.new;
+        })
+        (record { held = K.held out.old; held' = K.held out.new; faults = K.count out.old; faults' = K.count out.new }) rest result }
 {
     match words {
-        [word] if word.is("--help") => print_text(out, USAGE),
-        [word] if word.is("--version") => print_text(out, VERSION),
+        [word] if word.is("--help") => Err(print_text(out, USAGE)),
+        [word] if word.is("--version") => Err(print_text(out, VERSION)),
         [home, workers, rest @ ..] if is_in_form(home, words) => match read_workers(workers) {
-            Some(workers) => run_in(rt, home, workers, rest, out),
-            None => print_exit(rt.alloc(), out, Exit::BadWords),
+            Some(workers) => run_on(alloc, workers, rest, library, out),
+            None => Err(print_exit(alloc, out, Exit::BadWords)),
         },
-        _ => print_exit(rt.alloc(), out, Exit::BadWords),
+        _ => Err(print_exit(alloc, out, Exit::BadWords)),
+    }
+}
+
+/// The exit, whether anything was run or not.
+fn exit_of(ran: Result<Ended<MemoryDisk, MemoryHandler>, Exit>) -> Exit
+    ensures { result ≡ exit_of ran }
+{
+    match ran {
+        Ok(
+            Ended {
+                exit,
+                disk: _,
+                lanes: _,
+            },
+        ) => exit,
+        Err(exit) => exit,
     }
 }
 
@@ -129,49 +199,41 @@ fn are_short(words: &[Txt]) -> bool
     total < MOST_BYTES
 }
 
-/// Does what the words say over the templates of the folder, a new disk and four lanes, these in memory.
-fn run_in<K: Sink>(rt: HostRuntime, home: &Txt, workers: u32, words: &[Txt], out: &mut K) -> Exit
-    ensures { IsRun
-        (record { held = K.held out.old; held' = K.held out.new; faults = K.count out.old; faults' = K.count out.new })
-        words.now result }
+/// Does what the words say over a library, a new disk and four lanes, these in memory. Where there is no memory for these, nothing is run,
+/// and the exit says so.
+fn run_on<L: Library, K: Sink>(
+    alloc: Global,
+    workers: u32,
+    words: &[Txt],
+    library: &mut L,
+    out: &mut K,
+) -> Result<Ended<MemoryDisk, MemoryHandler>, Exit>
+    ensures same { L.texts library.new ≡ L.texts library.old }
+    ensures runs { RunsAs ⟦<MemoryDisk as Disk>⟧ ⟦<MemoryHandler as Handler>⟧ (record {
+      texts = L.texts library.old;
+      faults = L.count library.old;
+      faults' = L.count library.new;
+      misses = L.missed library.old;
+      misses' = L.missed library.new;
+    })
+        (record { held = K.held out.old; held' = K.held out.new; faults = K.count out.old; faults' = K.count out.new }) words.now result }
 {
-    let alloc = rt.alloc();
-    match (templates_of(alloc, home), new_disk(alloc), lanes_of(alloc)) {
-        (Ok(folder), Ok(disk), Ok(lanes)) => {
-            let mut library = FolderLibrary::new(rt, folder);
-            let Ended {
-                exit,
-                disk: _,
-                lanes: _,
-            } = cfstack(alloc, words, workers, &mut library, out, disk, lanes);
-            exit
-        }
-        _ => print_exit(alloc, out, Exit::NoMemory),
+    match (new_disk(alloc), lanes_of(alloc)) {
+        (Ok(disk), Ok(lanes)) => Ok(cfstack(alloc, words, workers, library, out, disk, lanes)),
+        _ => Err(print_exit(alloc, out, Exit::NoMemory)),
     }
 }
 
-/// A disk in memory on which nothing stands yet.
+/// A disk in memory on which nothing stands yet, and of which no call is to fail.
 fn new_disk(alloc: Global) -> Result<MemoryDisk, NoMemory>
-    ensures room { IfOk result (λ disk. ⟦<MemoryDisk as Disk>⟧.room_of disk ≡ 16777216) }
-    ensures bytes { IfOk result (λ disk. ⟦<MemoryDisk as Disk>⟧.seen disk ≡ []) }
+    ensures { IfOk result (IsFresh [] 16777216 [] 65536 33554432) }
 {
     MemoryDisk::new(alloc, &[], ROOM, &[], MOST_CALLS, MOST_WRITTEN)
 }
 
-/// The folder of templates.
-fn templates_of(alloc: Global, home: &Txt) -> Result<String, NoMemory>
-    ensures { IfOk result (λ folder. string_bytes folder ≡ home.now ++ codes "/templates") }
-{
-    let mut folder = String::from_str(alloc, home.as_str())?;
-    folder.push_str("/templates")?;
-    Ok(folder)
-}
-
 /// The lanes, all in memory: two for files and two for records.
 fn lanes_of(alloc: Global) -> Result<Vec<MemoryHandler>, NoMemory>
-    ensures schemas { IfOk result (λ lanes. map ⟦<MemoryHandler as Handler>⟧.schema_of lanes.items ≡ program_schemas) }
-    ensures told { IfOk result (λ lanes. map ⟦<MemoryHandler as Handler>⟧.told lanes.items ≡ unused ∷ unused ∷ unused ∷ unused ∷ []) }
-    ensures names { IfOk result (λ lanes. map ⟦<MemoryHandler as Handler>⟧.label lanes.items ≡ program_names) }
+    ensures { IfOk result (λ lanes. AreNew ⟦<MemoryHandler as Handler>⟧ lanes.items) }
 {
     let mut lanes = Vec::new(alloc);
     lanes.push(lane_of(alloc, "files1", file_schema(alloc)?)?)?;
@@ -181,10 +243,11 @@ fn lanes_of(alloc: Global) -> Result<Vec<MemoryHandler>, NoMemory>
     Ok(lanes)
 }
 
-/// A lane in memory, which holds nothing yet and of which no call is broken.
+/// A lane in memory, which holds nothing yet and of which no call is to break.
 fn lane_of(alloc: Global, name: &str, schema: Schema) -> Result<MemoryHandler, NoMemory>
     requires { IsTrue (is_lane_name name.now) }
-    ensures { IfOk result (λ lane. (⟦<MemoryHandler as Handler>⟧.label lane ≡ name.now) × (⟦<MemoryHandler as Handler>⟧.schema_of lane ≡ schema) × (⟦<MemoryHandler as Handler>⟧.told lane ≡ unused)) }
+    ensures lane { IfOk result (λ lane. lane_with ⟦<MemoryHandler as Handler>⟧ lane [] ≡ new_lane name.now schema) }
+    ensures unplanned { IfOk result (λ lane. (kept_of lane).plan ≡ []) }
 {
     MemoryHandler::new(alloc, name, schema, Listing::new(alloc))
 }

@@ -18,7 +18,7 @@ use Rattle.cf_effect.specs.Listed.{export_by}
 use Rattle.cf_effect.specs.Operation.{Response}
 use Rattle.cf_effect.specs.World.{StackState, World, known_stack}
 use Rattle.cf_plan.specs.Ends.{IsBlamedFor, IsComplete, IsLive, right_at}
-use Rattle.cf_plan.specs.Follow.{settled_by}
+use Rattle.cf_plan.specs.Follow.{may_repeat, settled_by}
 use Rattle.cf_plan.specs.Forward.{evaluated_at, Finding, Known, is_made}
 use Rattle.cf_tree.specs.Lists.{there}
 use Rattle.cf_tree.specs.Lists.{here}
@@ -31,9 +31,11 @@ use Rattle.cf_examples.specs.Given.{file, file_props, note}
 use Rattle.cf_examples.proofs.BrokenAgreement.{content_in}
 use Rattle.cf_examples.proofs.Computing.{computing}
 use Rattle.cf_examples.proofs.Lists.{found_passes, in_none, only, some_is}
-use Rattle.cf_examples.specs.BrokenStacks.{update, updating, restoring, url, other, exporting, deletion, failing, refused, wrong, NotComplete, NotRestored, NotBlamed, open_deletion, NoSuchWorlds, replaced, changed, NotAdvancing, NotBack, NotBooked}
+use Rattle.cf_examples.specs.BrokenStacks.{update, updating, restoring, url, other, exporting, deletion, failing, refused, wrong, NotComplete, NotRestored, NotBlamed, open_deletion, NoSuchWorlds, replaced, changed, NotAdvancing, NotBack, NotBooked, NotOpen}
 use Rattle.cf_effect.specs.declared.held.Pending.{Pending}
-use Rattle.cf_effect.specs.Status.{is_in_progress}
+use Rattle.cf_effect.specs.Status.{Gone, Stage, is_in_progress, stage_of}
+use Rattle.cf_effect.specs.Words.{pending_of}
+use Rattle.cf_core.specs.InFlight.{IsOpenCall}
 use Rattle.cf_examples.proofs.Beginning.{one_stack}
 use Rattle.cf_core.specs.Advancing.{AreSameThings}
 use Rattle.cf_tree.specs.declared.template.Deletion.TheVariants as deletion
@@ -254,5 +256,22 @@ not_booked = record {
   out_of_order = λ s. true≢false (sym (s.ordered.held _ here));
   goes_forward_though_continued = λ s. let e = s.skips_none refl in absurd (cc);
   deleted_before_the_cleanup = λ s. true≢false (s.undeleted refl deletion here (codes "f1:1"));
+  refused_three_times_and_open = λ s. let few = s.tries open_deletion (codes "f1:1") here refl in absurd (omega (arith, few));
   lane_of_no_schema = λ d. true≢false (sym (d _ here));
+}
+
+-- a call that may not be made again is not open
+not_again : (s : StackState) (stage : Stage) (p : Pending) → stage_of s.status ≡ Some stage → pending_of 2 s ≡ Some p → may_repeat stage [] s p ≡ false
+    → IsOpenCall s 2 → ⊥
+not_again s stage p at found never h =
+    let one : ◌≡◌ {A = Stage} h.stage stage = some_is (sym h.in_stage ∙ at) in
+    let same : ◌≡◌ {A = Pending} h.pending p = some_is (sym h.found ∙ found) in
+    true≢false (sym h.again ∙ ap (λ (k : Stage). may_repeat k [] s h.pending) one ∙ ap (λ (q : Pending). may_repeat stage [] s q) same ∙ never)
+
+pub not_open : NotOpen
+not_open = record {
+  given_up = λ h. let e = h.found in absurd (cc);
+  of_an_operation_that_ended = λ h. let e = h.in_stage in absurd (cc);
+  in_doubt_three_times = not_again _ Gone open_deletion refl refl refl;
+  at_a_path_that_is_retained = not_again _ Gone open_deletion refl refl refl;
 }

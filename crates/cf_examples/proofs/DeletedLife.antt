@@ -74,7 +74,7 @@ crashing =
     (step.raises refl refl refl here (lit≤ tt) (lit≤ tt, refl)
     (step.begins (behind 2) refl refl tt may_delete refl
     (step.grants (behind 3) refl tt may_intend refl refl
-    (step.acts refl refl refl ((lit≤ tt, tt), (lit≤ tt, (_, ((refl, refl, refl), refl), refl)))
+    (step.acts refl refl refl ((lit≤ tt, tt), (lit≤ tt, (_, ((refl, refl, lit≤ tt), refl), refl)))
     (step.crashes step.ended)))))
 
 pub crashes : Crashes

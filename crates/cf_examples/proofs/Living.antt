@@ -6,7 +6,8 @@ use Rattle.std.specs.Option.{option_map_or}
 use Rattle.std.specs.Str.{bytes_eq}
 use Rattle.std.proofs.lemmas.Slice.Eq.{bytes_eq-Decides}
 use Rattle.cf_handler.specs.declared.settled.Settlement.{Settlement}
-use Rattle.cf_handler.specs.Fence.{Left, left_by, late_by, LateMove, FenceAnswer, FenceMove, raised_to}
+use Rattle.cf_handler.specs.declared.fence.FenceAnswer.{FenceAnswer}
+use Rattle.cf_handler.specs.Fence.{Left, left_by, late_by, LateMove, FenceMove, raised_to}
 use Rattle.cf_entry.specs.declared.entry.Entry.{Entry}
 use Rattle.cf_entry.specs.declared.entry.Entry.TheVariants as entry
 use Rattle.cf_effect.specs.declared.held.Pending.{Pending}

@@ -67,7 +67,7 @@ catching =
     opens world_4 refl opens_again refl refl refl
     (raises refl refl refl here (lit≤ tt) (lit≤ tt, refl, refl)
     (repeats (codes "app") (app_in world_4) Forward pending refl refl refl refl refl ((sound schemas (codes "app") world_4 (app_in world_4) refl refl refl refl refl), here, refl) refl
-    (acts refl refl refl (lit≤ tt, refl, refl)
+    (acts refl refl refl ((lit≤ tt, tt), (lit≤ tt, refl, refl))
     (parks refl refl
     (closes refl refl going)))))
 
@@ -75,7 +75,7 @@ pub catches_up : CatchesUp
 catches_up = catching.lives refl
 
 pub never_stale : NeverStale
-never_stale given life token fence left tied (lease, lane, at, none, home, stale) =
-    let past : (world_of life).epoch < lane.state.fence = stale.0 in
+never_stale given life token fence before after left tied (lease, lane, at, none, home, stale) =
+    let past : (world_of life).epoch < lane.state.fence = stale.1.0 in
     let kept : lane.state.fence ≤ (world_of life).epoch = subst (λ o. (option_map_or (λ (q : Lane). q.state) o no_lane).fence ≤ (world_of life).epoch) home (tied.ties.fences lease.lane) in
     omega arith

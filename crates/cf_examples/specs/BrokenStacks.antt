@@ -31,6 +31,7 @@ use Rattle.cf_tree.specs.declared.request.Request.{Request}
 use Rattle.cf_core.specs.Books.{IsBooked}
 use Rattle.cf_core.specs.Course.{IsOnCourse}
 use Rattle.cf_core.specs.Hiding.{AreDescribed}
+use Rattle.cf_core.specs.InFlight.{IsOpenCall}
 use Rattle.cf_core.specs.OnCourse.{IsSupported}
 use Rattle.cf_tree.specs.declared.code.Code.TheVariants as code
 use Rattle.cf_tree.specs.declared.request.Request.TheVariants as request
@@ -278,6 +279,19 @@ answerless c = record app { entries = []; ledger = c ∷ [] }
 abbrev pub needing : Held → List ℕ → Held
 needing r path = record r { needs = path ∷ [] }
 
+abbrev pub refused_deletion : Call
+refused_deletion = record deletion { answer = Some (settled.Failed code.AccessDenied) }
+
+-- a call that is out, of the deletion of the stack
+abbrev pub deleting : List Pending → List Entry → Call → StackState
+deleting tokens entries row = record (calling tokens) { status = DeleteInProgress; entries = entries; ledger = row ∷ [] }
+
+pub record NotOpen : Type 0 where
+  pub given_up : ¬ IsOpenCall (deleting [] [] deletion) 2
+  pub of_an_operation_that_ended : ¬ IsOpenCall (calling (open_deletion ∷ [])) 2
+  pub in_doubt_three_times : ¬ IsOpenCall (deleting (open_deletion ∷ []) [] (record deletion { doubts = 3 })) 2
+  pub at_a_path_that_is_retained : ¬ IsOpenCall (deleting (open_deletion ∷ []) (retains ∷ []) deletion) 2
+
 -- the books of one stack, and what its operation rests on besides
 pub record NotBooked : Type 0 where
   pub answer_without_a_row : ¬ IsBooked (record (failing 1 refused 0 1 []) { ledger = [] })
@@ -296,4 +310,6 @@ pub record NotBooked : Type 0 where
   pub out_of_order : ¬ IsSupported (record app { held = record web { props = (codes "b", text []) ∷ (codes "a", text []) ∷ [] } ∷ [] })
   pub goes_forward_though_continued : ¬ IsSupported (record update { entries = skips ∷ [] })
   pub deleted_before_the_cleanup : ¬ IsSupported (record update { ledger = deletion ∷ [] })
+  pub refused_three_times_and_open :
+      ¬ IsSupported (record app { tokens = open_deletion ∷ []; ledger = refused_deletion ∷ refused_deletion ∷ refused_deletion ∷ [] })
   pub lane_of_no_schema : ¬ AreDescribed [] world

@@ -3,7 +3,8 @@
 -- own).
 use Rattle.std.specs.Prelude.{ℕ, List, [], ◌∷◌, codes, true, false}
 use Rattle.cf_tree.specs.declared.request.Answer.TheVariants as answer
-use Rattle.cf_handler.specs.Fence.{Raised, Untouched, SettledBy, FlyingOn}
+use Rattle.cf_handler.specs.declared.fence.FenceAnswer.TheVariants.{Raised}
+use Rattle.cf_handler.specs.Fence.{Untouched, SettledBy, FlyingOn}
 use Rattle.cf_effect.specs.World.{empty_world}
 use Rattle.cf_effect.specs.Fold.{fold_of}
 use Rattle.cf_plan.specs.Life.{Life, Event, CallEnd, Opened, Begin, Grant, Repeat, Settle, Raise, Act, Late, Close, Whole, Answered, IsLife}

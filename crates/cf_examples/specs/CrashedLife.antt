@@ -3,7 +3,8 @@
 use Rattle.std.specs.Prelude.{List, [], ◌∷◌, codes, true, false}
 use Rattle.cf_tree.specs.declared.request.Answer.TheVariants as answer
 use Rattle.cf_tree.specs.declared.request.Request.TheVariants as request
-use Rattle.cf_handler.specs.Fence.{Flying, Raised, SettledBy, FlyingOn}
+use Rattle.cf_handler.specs.declared.fence.FenceAnswer.TheVariants.{Raised}
+use Rattle.cf_handler.specs.Fence.{Flying, SettledBy, FlyingOn}
 use Rattle.cf_entry.specs.declared.entry.Entry.{Entry}
 use Rattle.cf_entry.specs.declared.entry.Entry.TheVariants as entry
 use Rattle.cf_entry.specs.declared.entry.Reply.TheVariants as reply

@@ -5,7 +5,8 @@ use Rattle.cf_tree.specs.declared.request.Answer.TheVariants as answer
 use Rattle.cf_tree.specs.declared.request.Request.TheVariants as request
 use Rattle.cf_handler.specs.declared.settled.Settled.{Settled}
 use Rattle.cf_handler.specs.declared.settled.Settlement.TheVariants as settlement
-use Rattle.cf_handler.specs.Fence.{Flying, Raised, SettledBy}
+use Rattle.cf_handler.specs.declared.fence.FenceAnswer.TheVariants.{Raised}
+use Rattle.cf_handler.specs.Fence.{Flying, SettledBy}
 use Rattle.cf_plan.specs.Lanes.{Lane}
 use Rattle.cf_plan.specs.Life.{Life, Event, Opened, Begin, Grant, Settle, Raise, Act, Close, Whole, Answered, IsLife, IsStart, Lease}
 use Rattle.cf_plan.specs.Promise.{AreKept}

@@ -6,7 +6,8 @@ use Rattle.cf_tree.specs.declared.request.Answer.TheVariants as answer
 use Rattle.cf_tree.specs.declared.request.Request.TheVariants as request
 use Rattle.cf_handler.specs.declared.settled.Settled.{Settled}
 use Rattle.cf_handler.specs.declared.settled.Settlement.TheVariants as settlement
-use Rattle.cf_handler.specs.Fence.{Flying, Raised, Untouched, SettledBy, FlyingOn}
+use Rattle.cf_handler.specs.declared.fence.FenceAnswer.TheVariants.{Raised}
+use Rattle.cf_handler.specs.Fence.{Flying, Untouched, SettledBy, FlyingOn}
 use Rattle.cf_entry.specs.declared.entry.Entry.{Entry}
 use Rattle.cf_plan.specs.Life.{Life, Lease, Event, CallEnd, Opened, Begin, Grant, Repeat, Settle, Raise, Act, Late, Close, Whole, Answered, IsLife}
 use Rattle.cf_examples.specs.Given.{file, file_props, file_attrs, schemas}

@@ -5,7 +5,8 @@ use Rattle.cf_tree.specs.declared.request.Answer.TheVariants as answer
 use Rattle.cf_tree.specs.declared.request.Request.TheVariants as request
 use Rattle.cf_handler.specs.declared.settled.Settled.{Settled}
 use Rattle.cf_handler.specs.declared.settled.Settlement.TheVariants as settlement
-use Rattle.cf_handler.specs.Fence.{Flying, Raised, Ahead, Broken, Untouched, SettledBy, FlyingOn}
+use Rattle.cf_handler.specs.declared.fence.FenceAnswer.TheVariants.{Raised, Ahead, Fault}
+use Rattle.cf_handler.specs.Fence.{Flying, Untouched, SettledBy, FlyingOn}
 use Rattle.cf_entry.specs.declared.entry.Entry.{Entry}
 use Rattle.cf_entry.specs.declared.entry.Entry.TheVariants as entry
 use Rattle.cf_entry.specs.declared.entry.Begun.TheVariants as begin
@@ -102,7 +103,7 @@ answer_again = Answered (answer.Success (codes "f2:2") (file_attrs (codes "f2:2"
 -- The fence of the second lane is raised in three tries: two break off, of which the second one has raised it.
 abbrev pub from_then_on : List Event
 from_then_on =
-    Opened 2 ((codes "f2", file) ∷ []) Whole ∷ Raise (codes "f2") Broken false 0 1 ∷ Raise (codes "f2") Broken true 1 2
+    Opened 2 ((codes "f2", file) ∷ []) Whole ∷ Raise (codes "f2") Fault false 0 1 ∷ Raise (codes "f2") Fault true 1 2
     ∷ Raise (codes "f2") (Ahead 2) false 2 2 ∷ Begin begun_again Whole ∷ Grant intended_again Whole
     ∷ Late (codes "f1") 0 creation.settlement
     ∷ Act 2 answer_again (SettledBy creation_again.settlement)

@@ -10,7 +10,8 @@ use Rattle.cf_tree.specs.declared.row.Row.{Row}
 use Rattle.cf_tree.specs.declared.row.Action.TheVariants as action
 use Rattle.cf_handler.specs.declared.settled.Settled.{Settled}
 use Rattle.cf_handler.specs.declared.settled.Settlement.TheVariants as settlement
-use Rattle.cf_handler.specs.Fence.{Raised, SettledBy}
+use Rattle.cf_handler.specs.declared.fence.FenceAnswer.TheVariants.{Raised}
+use Rattle.cf_handler.specs.Fence.{SettledBy}
 use Rattle.cf_entry.specs.declared.entry.Entry.{Entry}
 use Rattle.cf_entry.specs.declared.entry.Entry.TheVariants as entry
 use Rattle.cf_entry.specs.declared.entry.Begun.TheVariants as begin

@@ -283,4 +283,5 @@ pub fn wrong_stacks()
     ensures not_advancing { stacks_told.NotAdvancing }
     ensures not_back { stacks_told.NotBack }
     ensures not_booked { stacks_told.NotBooked }
+    ensures not_open { stacks_told.NotOpen }
 {}

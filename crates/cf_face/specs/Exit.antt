@@ -32,6 +32,8 @@ exit_number exit.NoMemory = 9
 exit_number (exit.NotAJournal offset) = 10
 exit_number (exit.LaneMissing name) = 11
 exit_number (exit.LaneTwice name) = 11
+exit_number (exit.LaneAhead name fence epoch) = 12
+exit_number (exit.LaneFault name) = 13
 exit_number (exit.Full length need room) = 14
 
 -- the name of an exit
@@ -49,6 +51,8 @@ exit_name exit.NoMemory = codes "NoMemory"
 exit_name (exit.NotAJournal offset) = codes "NotAJournal"
 exit_name (exit.LaneMissing name) = codes "LaneMissing"
 exit_name (exit.LaneTwice name) = codes "LaneTwice"
+exit_name (exit.LaneAhead name fence epoch) = codes "LaneAhead"
+exit_name (exit.LaneFault name) = codes "LaneFault"
 exit_name (exit.Full length need room) = codes "Full"
 
 -- why a template was not read: the fault's name and then its fields
@@ -77,6 +81,13 @@ refusal_words (refusal.UnknownType path name) = codes "UnknownType" ∷ text_wor
 abbrev pub stack_words : StackFault → List (List ℕ)
 stack_words stack.NoStack = codes "NoStack" ∷ []
 stack_words (stack.WrongStatus status) = codes "WrongStatus" ∷ status_name status ∷ []
+stack_words (stack.NoChangeSet number) = codes "NoChangeSet" ∷ decimal number ∷ []
+stack_words (stack.NotFailed path) = codes "NotFailed" ∷ text_word path ∷ []
+stack_words (stack.TypeChanged path) = codes "TypeChanged" ∷ text_word path ∷ []
+stack_words (stack.ExportTaken name) = codes "ExportTaken" ∷ text_word name ∷ []
+stack_words (stack.ExportInUse name) = codes "ExportInUse" ∷ text_word name ∷ []
+stack_words stack.NoChanges = codes "NoChanges" ∷ []
+stack_words (stack.Outdated number) = codes "Outdated" ∷ decimal number ∷ []
 
 -- what a handler answered: the name of its code, or that it failed without one
 abbrev pub reason_word : Reason → List ℕ
@@ -104,6 +115,8 @@ field_words exit.NoMemory = []
 field_words (exit.NotAJournal offset) = decimal offset ∷ []
 field_words (exit.LaneMissing name) = text_word name ∷ []
 field_words (exit.LaneTwice name) = text_word name ∷ []
+field_words (exit.LaneAhead name fence epoch) = text_word name ∷ decimal fence ∷ decimal epoch ∷ []
+field_words (exit.LaneFault name) = text_word name ∷ []
 field_words (exit.Full length need room) = decimal length ∷ decimal need ∷ decimal room ∷ []
 
 -- the line of an exit: `exit`, its number, its name, and its fields in order

@@ -2,11 +2,11 @@
 
 ghost use Rattle.std.specs.Prelude.{◌≡◌, ◌++◌, [], ◌∷◌, codes, decimal, IfOk, string_bytes};
 ghost use Rattle.cf_desired.specs.FlawText.{flaw_text};
-ghost use Rattle.cf_face.specs.Line.{spaced};
+ghost use Rattle.cf_face.specs.Line.{spaced, text_word};
 ghost use Rattle.cf_face.specs.Exit.{exit_number, exit_name, refusal_words, stack_words, field_words, exit_line};
 
 use crate::cause::push_cause;
-use crate::fault_words::push_unread;
+use crate::fault_words::{push_counted, push_unread};
 use crate::line::{push_named, push_number, push_text, push_texts, push_word};
 use cf_desired::{Flaw, plan_text};
 use cf_entry::{Cause, Status};
@@ -43,6 +43,10 @@ pub enum Exit {
     LaneMissing { name: Txt },
     /// Two lanes have this name.
     LaneTwice { name: Txt },
+    /// The fence of this lane is not below the number of the opening, as it is raised, or above it, as the lane is called.
+    LaneAhead { name: Txt, fence: u64, epoch: u64 },
+    /// The lane failed as its fence was raised.
+    LaneFault { name: Txt },
     /// The journal's length and the bytes that the next entry needs pass the disk's room.
     Full { length: u64, need: u64, room: u64 },
 }
@@ -67,6 +71,20 @@ pub enum StackFault {
     NoStack,
     /// No operation of the kind begins from this status.
     WrongStatus { status: Status },
+    /// The stack has no change set of the number.
+    NoChangeSet { number: u64 },
+    /// The path is not among those that failed.
+    NotFailed { path: Txt },
+    /// The path is held with another type.
+    TypeChanged { path: Txt },
+    /// Another stack exports or claims the name, or two outputs export it.
+    ExportTaken { name: Txt },
+    /// Another stack imports the export, which would be gone.
+    ExportInUse { name: Txt },
+    /// Nothing changes.
+    NoChanges,
+    /// The changes are no longer those of the change set.
+    Outdated { number: u64 },
 }
 
 impl Exit {
@@ -87,6 +105,8 @@ impl Exit {
             Exit::NoMemory => 9,
             Exit::NotAJournal { .. } => 10,
             Exit::LaneMissing { .. } | Exit::LaneTwice { .. } => 11,
+            Exit::LaneAhead { .. } => 12,
+            Exit::LaneFault { .. } => 13,
             Exit::Full { .. } => 14,
         }
     }
@@ -109,6 +129,8 @@ impl Exit {
             Exit::NotAJournal { .. } => "NotAJournal",
             Exit::LaneMissing { .. } => "LaneMissing",
             Exit::LaneTwice { .. } => "LaneTwice",
+            Exit::LaneAhead { .. } => "LaneAhead",
+            Exit::LaneFault { .. } => "LaneFault",
             Exit::Full { .. } => "Full",
         }
     }
@@ -119,12 +141,14 @@ impl Exit {
     {
         match self {
             Exit::TemplateRefused { fault } => fault.push_to(alloc, line),
-            Exit::StackRefused { fault } => fault.push_to(line),
+            Exit::StackRefused { fault } => fault.push_to(alloc, line),
             Exit::RolledBack { cause } => push_cause(alloc, line, cause),
             Exit::Failed { blamed } => push_texts(alloc, line, blamed.as_slice()),
             Exit::NotAJournal { offset } => push_number(alloc, line, *offset),
             Exit::LaneMissing { name } => push_text(alloc, line, name),
             Exit::LaneTwice { name } => push_text(alloc, line, name),
+            Exit::LaneAhead { name, fence, epoch } => push_ahead(alloc, line, name, *fence, *epoch),
+            Exit::LaneFault { name } => push_text(alloc, line, name),
             Exit::Full { length, need, room } => push_sizes(alloc, line, *length, *need, *room),
             Exit::Done
             | Exit::BadWords
@@ -178,18 +202,31 @@ impl Refusal {
 
 impl StackFault {
     // Adds the name of the variant and its field, each after a space.
-    fn push_to(&self, line: &mut String) -> Result<(), NoMemory>
+    fn push_to(&self, alloc: Global, line: &mut String) -> Result<(), NoMemory>
         ensures { IfOk result (λ _. string_bytes line.new ≡ string_bytes line.old ++ spaced (stack_words self.now)) }
     {
         match self {
             StackFault::NoStack => push_word(line, "NoStack"),
-            StackFault::WrongStatus { status } => {
-                push_word(line, "WrongStatus")?;
-                push_word(line, status.name())?;
-                Ok(())
-            }
+            StackFault::WrongStatus { status } => push_words(line, "WrongStatus", status.name()),
+            StackFault::NoChangeSet { number } => push_counted(alloc, line, "NoChangeSet", *number),
+            StackFault::NotFailed { path } => push_named(alloc, line, "NotFailed", path),
+            StackFault::TypeChanged { path } => push_named(alloc, line, "TypeChanged", path),
+            StackFault::ExportTaken { name } => push_named(alloc, line, "ExportTaken", name),
+            StackFault::ExportInUse { name } => push_named(alloc, line, "ExportInUse", name),
+            StackFault::NoChanges => push_word(line, "NoChanges"),
+            StackFault::Outdated { number } => push_counted(alloc, line, "Outdated", *number),
         }
     }
+}
+
+// Adds two words, each after a space.
+#[tactic(auto, using(crate::proofs::Spaced::two_words))]
+fn push_words(line: &mut String, first: &str, second: &str) -> Result<(), NoMemory>
+    ensures { IfOk result (λ _. string_bytes line.new ≡ string_bytes line.old ++ spaced (first.now ∷ second.now ∷ [])) }
+{
+    push_word(line, first)?;
+    push_word(line, second)?;
+    Ok(())
 }
 
 // Adds `Plan` and how the flaw is told, each after a space.
@@ -216,5 +253,22 @@ fn push_sizes(
     push_number(alloc, line, length)?;
     push_number(alloc, line, need)?;
     push_number(alloc, line, room)?;
+    Ok(())
+}
+
+// Adds the name of a lane and two numbers, each after a space.
+fn push_ahead(
+    alloc: Global,
+    line: &mut String,
+    name: &Txt,
+    fence: u64,
+    epoch: u64,
+) -> Result<(), NoMemory>
+    ensures { IfOk result (λ _. string_bytes line.new
+        ≡ string_bytes line.old ++ spaced (text_word name.now ∷ decimal fence ∷ decimal epoch ∷ [])) }
+{
+    push_text(alloc, line, name)?;
+    push_number(alloc, line, fence)?;
+    push_number(alloc, line, epoch)?;
     Ok(())
 }

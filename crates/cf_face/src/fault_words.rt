@@ -30,7 +30,12 @@ pub fn push_unread(alloc: Global, line: &mut String, fault: &TemplateFault) -> R
 
 /// Adds a word and a number, each after a space.
 #[tactic(auto, using(crate::proofs::Spaced::two_words))]
-fn push_counted(alloc: Global, line: &mut String, word: &str, count: u64) -> Result<(), NoMemory>
+pub fn push_counted(
+    alloc: Global,
+    line: &mut String,
+    word: &str,
+    count: u64,
+) -> Result<(), NoMemory>
     ensures { IfOk result (λ _. string_bytes line.new ≡ string_bytes line.old ++ spaced (word.now ∷ decimal count ∷ [])) }
 {
     push_word(line, word)?;

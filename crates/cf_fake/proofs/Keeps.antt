@@ -22,24 +22,26 @@ use Rattle.cf_tree.specs.declared.request.Request.TheVariants.{Create, Update, D
 use Rattle.cf_handler.specs.declared.settled.Settlement.{Settlement}
 use Rattle.cf_handler.specs.declared.settled.Settlement.TheVariants.{Success, Failed}
 use Rattle.cf_handler.specs.declared.settled.Settled.{Settled}
-use Rattle.cf_handler.specs.Move.{IsShort, MaySettle, LaneMove, with_settled}
+use Rattle.cf_handler.specs.Move.{IsOfLane, MaySettle, LaneMove, with_settled}
 use Rattle.cf_handler.specs.Answered.{answer_of}
 use Rattle.cf_tree.specs.declared.request.Answer.{Answer}
+use Rattle.cf_tree.specs.declared.request.Look.{Look}
+use Rattle.cf_handler.specs.Look.{ShowsShort}
 use Rattle.cf_tree.specs.declared.request.Answer.TheVariants as answer
 use Rattle.cf_tree.specs.declared.code.Code.{Code}
 use Rattle.cf_tree.specs.declared.code.Code.TheVariants as code
 use Rattle.cf_schema.specs.declared.described.Schema.{Schema}
 use Rattle.cf_fake.specs.declared.planned.Break.{Break}
-use Rattle.cf_fake.specs.declared.planned.Break.TheVariants.{Refuse, FaultBefore, FaultAfter}
+use Rattle.cf_fake.specs.declared.planned.Break.TheVariants.{Refuse, FaultBefore, FaultAfter, FaultLater, FenceFault}
 use Rattle.cf_fake.specs.Refusable.{may_refuse, may_break}
-use Rattle.cf_fake.specs.Plan.{settled_by, told_by, IsWorked, IsTold, new_entry, AnswersByTable}
+use Rattle.cf_fake.specs.Plan.{settled_by, told_by, IsWorked, new_entry}
 use Rattle.cf_handler.specs.Lane.{LaneState, Live, live_after, live_of, live_changed, updated, has_id, is_used, succeeded_with, settlement_of}
 use Rattle.cf_handler.specs.Name.{is_lane_name}
-use Rattle.cf_fake.specs.Table.{id_of, is_of_id, is_settable, is_there, are_valid, is_taken, is_fixed, measured, attrs_of, update_answer, delete_answer, answer_to}
+use Rattle.cf_fake.specs.Table.{id_of, is_of_id, is_settable, is_there, are_valid, is_taken, is_fixed, measured, attrs_of, update_answer, delete_answer, answer_to, look_at}
 use Rattle.cf_fake.specs.Live.{has_other, differ, lives}
 use Rattle.cf_fake.specs.declared.live.LiveResource.{LiveResource}
 use Rattle.std.specs.declared.alloc.AllocError.{AllocError}
-use Rattle.cf_fake.specs.Sound.{is_made_by, is_known, is_sound, are_sound, are_known, lane_of, IsSoundTable}
+use Rattle.cf_fake.specs.Sound.{AnswersInLane, is_made_by, is_known, is_sound, are_sound, are_known, are_short, lane_of, IsSoundTable}
 
 both : (a b : Bool) → a ≡ true → b ≡ true → (a && b) ≡ true
 both true b h g = g
@@ -138,6 +140,15 @@ known_short name (x ∷ ss) id n h =
     elim (either (is_made_by name id x) (is_known name ss id) h) [
       | inl d ↦ subst (λ i. length i ≤ 85) ((bytes_eq-Decides (id_of name x.token) id).0 (first_so _ _ d)) (id_short name x.token n (ltb-true _ _ (second_so (bytes_eq (id_of name x.token) id) _ d)))
       | inr d ↦ known_short name ss id n d
+    ]
+
+-- and of the lane
+known_of_lane : (name : List ℕ) (ss : List Settled) (id : List ℕ) → is_known name ss id ≡ true → IsOfLane name id
+known_of_lane name [] id h = absurd (true≢false (sym h))
+known_of_lane name (x ∷ ss) id h =
+    elim (either (is_made_by name id x) (is_known name ss id) h) [
+      | inl d ↦ (decimal x.token, sym ((bytes_eq-Decides (id_of name x.token) id).0 (first_so _ _ d)))
+      | inr d ↦ known_of_lane name ss id d
     ]
 
 some≢none : (X : Type 0) (x : X) → Some x ≡ None → ⊥
@@ -276,17 +287,53 @@ differ_made name ss (r ∷ rs) x k u h =
     let unlike : bytes_eq r.id x.id ≡ false = not_both _ (λ b. true≢false (sym (first_so _ _ k) ∙ ap (is_known name ss) ((bytes_eq-Decides r.id x.id).0 b) ∙ u)) in
     both _ _ (not_false _ (other_made r.id rs x (not_true (has_other r.id rs) (first_so _ _ h)) unlike)) (differ_made name ss rs x (second_so (is_known name ss r.id) _ k) u (second_so (not (has_other r.id rs)) _ h))
 
+-- attributes stay short
+shorts_made : (live : List Live) (x : Live) → are_short live ≡ true → nat_le (size_of_dict x.attrs) 524288 ≡ true → are_short (live ++ x ∷ []) ≡ true
+shorts_made [] x h g = both _ true g refl
+shorts_made (r ∷ rs) x h g = both _ _ (first_so _ _ h) (shorts_made rs x (second_so (nat_le (size_of_dict r.attrs) 524288) _ h) g)
+
+short-by : (b : Bool) (props attrs : List (List ℕ × Data)) (r : Live) → nat_le (size_of_dict r.attrs) 524288 ≡ true → nat_le (size_of_dict attrs) 524288 ≡ true → nat_le (size_of_dict (cond b (record { id = r.id; kind = r.kind; props = props; attrs = attrs }) r).attrs) 524288 ≡ true
+short-by true props attrs r h g = g
+short-by false props attrs r h g = h
+
+shorts_updated : (id : List ℕ) (props attrs : List (List ℕ × Data)) (live : List Live) → are_short live ≡ true → nat_le (size_of_dict attrs) 524288 ≡ true → are_short (map (updated id props attrs) live) ≡ true
+shorts_updated id props attrs [] h g = refl
+shorts_updated id props attrs (r ∷ rs) h g =
+    both _ _ (short-by (bytes_eq id r.id) props attrs r (first_so _ _ h) g) (shorts_updated id props attrs rs (second_so (nat_le (size_of_dict r.attrs) 524288) _ h) g)
+
+shorts_filtered-by : (b : Bool) (r : Live) (rs : List Live) → nat_le (size_of_dict r.attrs) 524288 ≡ true → are_short rs ≡ true → are_short (cond b (r ∷ rs) rs) ≡ true
+shorts_filtered-by true r rs h g = both _ _ h g
+shorts_filtered-by false r rs h g = g
+
+shorts_filtered : (p : Live → Bool) (live : List Live) → are_short live ≡ true → are_short (filter p live) ≡ true
+shorts_filtered p [] h = refl
+shorts_filtered p (r ∷ rs) h = shorts_filtered-by (p r) r (filter p rs) (first_so _ _ h) (shorts_filtered p rs (second_so (nat_le (size_of_dict r.attrs) 524288) _ h))
+
+found_short-by : (b : Bool) (x : Live) (o : Option Live) → nat_le (size_of_dict x.attrs) 524288 ≡ true → ShowsShort (look_at o) → ShowsShort (look_at (cond b (Some x) o))
+found_short-by true x o h g = leb-true _ _ h
+found_short-by false x o h g = g
+
+found_short : (id : List ℕ) (live : List Live) → are_short live ≡ true → ShowsShort (look_at (find (is_of_id id) live))
+found_short id [] h = tt
+found_short id (r ∷ rs) h = found_short-by (is_of_id id r) r (find (is_of_id id) rs) (first_so _ _ h) (found_short id rs (second_so (nat_le (size_of_dict r.attrs) 524288) _ h))
+
+-- so a look shows short attributes
+pub shows_short : (id : List ℕ) (live : List Live) (r : Result Look AllocError) → are_short live ≡ true → IfOk r (λ l. l ≡ look_at (find (is_of_id id) live)) → IfOk r ShowsShort
+shows_short id live (Ok l) h e = subst ShowsShort (sym e) (found_short id live h)
+shows_short id live (Err e) h f = tt
+
 -- What a new token may be settled with, so that the lane moves and all stays kept.
 record Fits (name : List ℕ) (ss : List Settled) (token : ℕ) (request : Request) (s : Settlement) : Type 0 where
   may : MaySettle name (lane_of ss) request s
   kept : IsSoundTable name (ss ++ record { token = token; request = request; settlement = s } ∷ [])
-  short : IsShort (answer_of s)
+  short : AnswersInLane name (answer_of s)
 
-kept_from : (name : List ℕ) (ss : List Settled) (x : Settled) → IsSoundTable name ss → is_sound name (ss ++ x ∷ []) x.settlement ≡ true → are_known name (ss ++ x ∷ []) (live_changed x.request x.settlement (live_of (lane_of ss))) ≡ true → differ (live_changed x.request x.settlement (live_of (lane_of ss))) ≡ true → IsSoundTable name (ss ++ x ∷ [])
-kept_from name ss x k s e d = record {
+kept_from : (name : List ℕ) (ss : List Settled) (x : Settled) → IsSoundTable name ss → is_sound name (ss ++ x ∷ []) x.settlement ≡ true → are_known name (ss ++ x ∷ []) (live_changed x.request x.settlement (live_of (lane_of ss))) ≡ true → differ (live_changed x.request x.settlement (live_of (lane_of ss))) ≡ true → are_short (live_changed x.request x.settlement (live_of (lane_of ss))) ≡ true → IsSoundTable name (ss ++ x ∷ [])
+kept_from name ss x k s e d f = record {
   sound = sound_more name ss x k.sound s;
   known = subst (λ live. are_known name (ss ++ x ∷ []) live ≡ true) (sym (live_more [] ss x)) e;
   differ = subst (λ live. differ live ≡ true) (sym (live_more [] ss x)) d;
+  short = subst (λ live. are_short live ≡ true) (sym (live_more [] ss x)) f;
 }
 
 failed_same : (request : Request) (c : Code) (live : List Live) → live_changed request (Failed c) live ≡ live
@@ -301,7 +348,8 @@ fits_failed name ss token request c k m =
       may = m;
       kept = kept_from name ss x k refl
           (subst (λ live. are_known name (ss ++ x ∷ []) live ≡ true) (sym (failed_same request c (live_of (lane_of ss)))) (knowns_still name ss x (live_of (lane_of ss)) k.known))
-          (subst (λ live. differ live ≡ true) (sym (failed_same request c (live_of (lane_of ss)))) k.differ);
+          (subst (λ live. differ live ≡ true) (sym (failed_same request c (live_of (lane_of ss)))) k.differ)
+          (subst (λ live. are_short live ≡ true) (sym (failed_same request c (live_of (lane_of ss)))) k.short);
       short = tt;
     }
 
@@ -316,8 +364,8 @@ fits_created g name ss token kind props n t k e v =
       may = ((decimal token, refl), omega (arith, id_short name token n t), none_succeeded name ss ss id k.sound new, size);
       kept = kept_from name ss x k (both _ _ (known_new name ss x t) (le-leb _ _ size))
           (knowns_made name (ss ++ x ∷ []) (live_of (lane_of ss)) made (knowns_still name ss x (live_of (lane_of ss)) k.known) (known_new name ss x t))
-          (differ_made name ss (live_of (lane_of ss)) made k.known new k.differ);
-      short = (omega (arith, id_short name token n t), size);
+          (differ_made name ss (live_of (lane_of ss)) made k.known new k.differ) (shorts_made (live_of (lane_of ss)) made k.short (le-leb _ _ size));
+      short = ((decimal token, refl), omega (arith, id_short name token n t), size);
     }
 
 fits_updated : (g : Schema) (name : List ℕ) (ss : List Settled) (token : ℕ) (id : List ℕ) (props : List (List ℕ × Data)) → is_lane_name name ≡ true → IsSoundTable name ss → has_id id (live_of (lane_of ss)) ≡ true → are_valid g props ≡ true → Fits name ss token (Update id props) (Success id (attrs_of id props))
@@ -329,8 +377,9 @@ fits_updated g name ss token id props n k h v =
       may = (refl, h, size);
       kept = kept_from name ss x k (both _ _ (known_more name ss x id known) (le-leb _ _ size))
           (knowns_updated name (ss ++ x ∷ []) id props (attrs_of id props) (live_of (lane_of ss)) ∙ knowns_still name ss x (live_of (lane_of ss)) k.known)
-          (differ_updated id props (attrs_of id props) (live_of (lane_of ss)) ∙ k.differ);
-      short = (omega (arith, known_short name ss id n known), size);
+          (differ_updated id props (attrs_of id props) (live_of (lane_of ss)) ∙ k.differ)
+          (shorts_updated id props (attrs_of id props) (live_of (lane_of ss)) k.short (le-leb _ _ size));
+      short = (known_of_lane name ss id known, omega (arith, known_short name ss id n known), size);
     }
 
 fits_deleted : (name : List ℕ) (ss : List Settled) (token : ℕ) (id : List ℕ) → is_lane_name name ≡ true → IsSoundTable name ss → has_id id (live_of (lane_of ss)) ≡ true → Fits name ss token (Delete id) (Success id [])
@@ -339,11 +388,11 @@ fits_deleted name ss token id n k h =
     let known : is_known name ss id ≡ true = known_live name ss (live_of (lane_of ss)) id k.known h in
     let size : size_of_dict [] ≤ 524288 = omega arith in
     record {
-      may = (refl, h, refl);
+      may = (refl, h, size);
       kept = kept_from name ss x k (both _ _ (known_more name ss x id known) (le-leb _ _ size))
           (knowns_filtered name (ss ++ x ∷ []) (λ r. not (bytes_eq id r.id)) (live_of (lane_of ss)) (knowns_still name ss x (live_of (lane_of ss)) k.known))
-          (differ_filtered (λ r. not (bytes_eq id r.id)) (live_of (lane_of ss)) k.differ);
-      short = (omega (arith, known_short name ss id n known), size);
+          (differ_filtered (λ r. not (bytes_eq id r.id)) (live_of (lane_of ss)) k.differ) (shorts_filtered (λ r. not (bytes_eq id r.id)) (live_of (lane_of ss)) k.short);
+      short = (known_of_lane name ss id known, omega (arith, known_short name ss id n known), size);
     }
 
 -- The answers of the table fit.
@@ -372,6 +421,9 @@ fits_table g name ss token (Create kind props) n t k e =
 fits_table g name ss token (Update id props) n t k e = fits_update g name ss token id props (find (is_of_id id) (live_of (lane_of ss))) n k refl
 fits_table g name ss token (Delete id) n t k e = fits_delete name ss token id (find (is_of_id id) (live_of (lane_of ss))) n k refl
 
+pub may_late : (g : Schema) (name : List ℕ) (ss : List Settled) (token : ℕ) (request : Request) → is_lane_name name ≡ true → token < 2 ^ 64 → IsSoundTable name ss → settlement_of token ss ≡ None → MaySettle name (lane_of ss) request (answer_to g name token (live_of (lane_of ss)) request)
+may_late g name ss token request n t k e = (fits_table g name ss token request n t k e).may
+
 may_refuse_deletion : (name : List ℕ) (lane : LaneState) (id : List ℕ) (c : Code) → may_refuse c ≡ true → MaySettle name lane (Delete id) (Failed c)
 may_refuse_deletion name lane id code.NotUpdatable h = tt
 may_refuse_deletion name lane id code.InvalidRequest h = tt
@@ -398,17 +450,25 @@ fits_new None g name ss token request n t k e f = fits_table g name ss token req
 fits_new (Some (Refuse c)) g name ss token request n t k e f = fits_failed name ss token request c k (refusal_settles name (lane_of ss) request c f)
 fits_new (Some FaultBefore) g name ss token request n t k e f = fits_table g name ss token request n t k e
 fits_new (Some FaultAfter) g name ss token request n t k e f = fits_table g name ss token request n t k e
+fits_new (Some (FaultLater later)) g name ss token request n t k e f = fits_table g name ss token request n t k e
+fits_new (Some FenceFault) g name ss token request n t k e f = fits_table g name ss token request n t k e
 
 -- so all stays kept when a new token is settled
 pub kept_more : (b : Option Break) (g : Schema) (name : List ℕ) (ss : List Settled) (token : ℕ) (request : Request) → is_lane_name name ≡ true → token < 2 ^ 64 → IsSoundTable name ss → settlement_of token ss ≡ None → IfSome b (λ x. may_break x ≡ true) → IsSoundTable name (ss ++ new_entry b g name token request ss ∷ [])
 kept_more b g name ss token request n t k e f = (fits_new b g name ss token request n t k e f).kept
 
--- A call of the handler is a move of its lane, and its answer is short.
-told_short : (b : Option Break) (s : Settlement) → IsShort (answer_of s) → IsShort (told_by b s)
-told_short None s h = h
-told_short (Some (Refuse c)) s h = h
-told_short (Some FaultBefore) s h = tt
-told_short (Some FaultAfter) s h = tt
+pub kept_with : (b : Option Break) (g : Schema) (name : List ℕ) (ss : List Settled) (token : ℕ) (request : Request) (s : Settlement) → is_lane_name name ≡ true → token < 2 ^ 64 → IsSoundTable name ss → settlement_of token ss ≡ None → IfSome b (λ x. may_break x ≡ true) → s ≡ settled_by b (answer_to g name token (live_of (lane_of ss)) request) → IsSoundTable name (ss ++ record { token = token; request = request; settlement = s } ∷ [])
+kept_with b g name ss token request s n t k e f d =
+    subst (λ (y : Settlement). IsSoundTable name (ss ++ record { token = token; request = request; settlement = y } ∷ [])) (sym d) (kept_more b g name ss token request n t k e f)
+
+-- A call of the handler is a move of its lane, and its answer is within the limits.
+told_short : (b : Option Break) (name : List ℕ) (s : Settlement) → AnswersInLane name (answer_of s) → AnswersInLane name (told_by b s)
+told_short None name s h = h
+told_short (Some (Refuse c)) name s h = h
+told_short (Some FaultBefore) name s h = tt
+told_short (Some FaultAfter) name s h = tt
+told_short (Some (FaultLater later)) name s h = tt
+told_short (Some FenceFault) name s h = h
 
 new_move : (name : List ℕ) (lane : LaneState) (token : ℕ) (request : Request) (s : Settlement) → settlement_of token lane.settled ≡ None → MaySettle name lane request s → LaneMove name lane (with_settled lane (record { token = token; request = request; settlement = s })) token request (answer_of s)
 new_move name lane token request (Success physical attrs) e m = rw e (m, refl)
@@ -422,6 +482,8 @@ told_new None name lane token request s e m = new_move name lane token request s
 told_new (Some (Refuse c)) name lane token request s e m = new_move name lane token request s e m
 told_new (Some FaultBefore) name lane token request s e m = new_fault name lane token request s e m
 told_new (Some FaultAfter) name lane token request s e m = new_fault name lane token request s e m
+told_new (Some (FaultLater later)) name lane token request s e m = new_fault name lane token request s e m
+told_new (Some FenceFault) name lane token request s e m = new_move name lane token request s e m
 
 same_move : (name : List ℕ) (lane : LaneState) (token : ℕ) (request : Request) (s : Settlement) → settlement_of token lane.settled ≡ Some s → LaneMove name lane lane token request (answer_of s)
 same_move name lane token request (Success physical attrs) e = rw e (refl, refl)
@@ -432,53 +494,49 @@ told_again None name lane token request s e = same_move name lane token request 
 told_again (Some (Refuse c)) name lane token request s e = same_move name lane token request s e
 told_again (Some FaultBefore) name lane token request s e = inl refl
 told_again (Some FaultAfter) name lane token request s e = inl refl
+told_again (Some (FaultLater later)) name lane token request s e = inl refl
+told_again (Some FenceFault) name lane token request s e = same_move name lane token request s e
 
-sound_short : (name : List ℕ) (all : List Settled) (s : Settlement) → is_lane_name name ≡ true → is_sound name all s ≡ true → IsShort (answer_of s)
-sound_short name all (Success physical attrs) n h = (omega (arith, known_short name all physical n (first_so _ _ h)), leb-true _ _ (second_so (is_known name all physical) _ h))
+sound_short : (name : List ℕ) (all : List Settled) (s : Settlement) → is_lane_name name ≡ true → is_sound name all s ≡ true → AnswersInLane name (answer_of s)
+sound_short name all (Success physical attrs) n h = (known_of_lane name all physical (first_so _ _ h), omega (arith, known_short name all physical n (first_so _ _ h)), leb-true _ _ (second_so (is_known name all physical) _ h))
 sound_short name all (Failed c) n h = tt
 
 again-by : (b : Bool) (s x : Settlement) (o : Option Settlement) → cond b (Some x) o ≡ Some s → (x ≡ s) ⊎ (o ≡ Some s)
 again-by true s x o h = inl cc
 again-by false s x o h = inr h
 
-again_short : (name : List ℕ) (token : ℕ) (all ss : List Settled) (s : Settlement) → is_lane_name name ≡ true → are_sound name all ss ≡ true → settlement_of token ss ≡ Some s → IsShort (answer_of s)
+again_short : (name : List ℕ) (token : ℕ) (all ss : List Settled) (s : Settlement) → is_lane_name name ≡ true → are_sound name all ss ≡ true → settlement_of token ss ≡ Some s → AnswersInLane name (answer_of s)
 again_short name token all [] s n h e = absurd (some≢none Settlement s (sym e))
 again_short name token all (x ∷ ss) s n h e =
     elim (again-by (token == x.token) s x.settlement (settlement_of token ss) e) [
-      | inl d ↦ subst (λ y. IsShort (answer_of y)) d (sound_short name all x.settlement n (first_so _ _ h))
+      | inl d ↦ subst (λ y. AnswersInLane name (answer_of y)) d (sound_short name all x.settlement n (first_so _ _ h))
       | inr d ↦ again_short name token all ss s n (second_so (is_sound name all x.settlement) _ h) d
     ]
 
 -- what holds of a call by which the lane came to after
 abbrev Moves : List ℕ → List Settled → List Settled → ℕ → Request → Answer → Type 0
-Moves name before after token request a = IsShort a × LaneMove name (lane_of before) (lane_of after) token request a
+Moves name before after token request a = AnswersInLane name a × LaneMove name (lane_of before) (lane_of after) token request a
 
 moves_as : (name : List ℕ) (before after after' : List Settled) (token : ℕ) (request : Request) (a a' : Answer) → a ≡ a' → after ≡ after' → Moves name before after' token request a' → Moves name before after token request a
 moves_as name before after after' token request a a' d e m = subst (λ x. Moves name before x token request a) (sym e) (subst (λ x. Moves name before after' token request x) (sym d) m)
 
 worked_moves : (b : Option Break) (g : Schema) (name : List ℕ) (ss after : List Settled) (token : ℕ) (request : Request) (o : Option Settlement) (a : Answer) → is_lane_name name ≡ true → token < 2 ^ 64 → IsSoundTable name ss → IfSome b (λ x. may_break x ≡ true) → settlement_of token ss ≡ o → IsWorked b o (new_entry b g name token request ss) ss after a → Moves name ss after token request a
 worked_moves b g name ss after token request (Some s) a n t k f e w =
-    moves_as name ss after ss token request a (told_by b s) w.0 w.1 (told_short b s (again_short name token ss ss s n k.sound e), told_again b name (lane_of ss) token request s e)
+    moves_as name ss after ss token request a (told_by b s) w.0 w.1 (told_short b name s (again_short name token ss ss s n k.sound e), told_again b name (lane_of ss) token request s e)
 worked_moves b g name ss after token request None a n t k f e w =
     let s : Settlement = settled_by b (answer_to g name token (live_of (lane_of ss)) request) in
     let fits : Fits name ss token request s = fits_new b g name ss token request n t k e f in
-    moves_as name ss after (ss ++ new_entry b g name token request ss ∷ []) token request a (told_by b s) w.0 w.1 (told_short b s fits.short, told_new b name (lane_of ss) token request s e fits.may)
+    moves_as name ss after (ss ++ new_entry b g name token request ss ∷ []) token request a (told_by b s) w.0 w.1 (told_short b name s fits.short, told_new b name (lane_of ss) token request s e fits.may)
 
-told_moves : (b : Option Break) (g : Schema) (name : List ℕ) (ss after : List Settled) (token : ℕ) (request : Request) (a : Answer) → is_lane_name name ≡ true → token < 2 ^ 64 → IsSoundTable name ss → IfSome b (λ x. may_break x ≡ true) → IsTold b (settlement_of token ss) (new_entry b g name token request ss) ss after a → Moves name ss after token request a
-told_moves None g name ss after token request a n t k f w = worked_moves None g name ss after token request (settlement_of token ss) a n t k f refl w
-told_moves (Some (Refuse c)) g name ss after token request a n t k f w = worked_moves (Some (Refuse c)) g name ss after token request (settlement_of token ss) a n t k f refl w
-told_moves (Some FaultAfter) g name ss after token request a n t k f w = worked_moves (Some FaultAfter) g name ss after token request (settlement_of token ss) a n t k f refl w
-told_moves (Some FaultBefore) g name ss after token request a n t k f w = moves_as name ss after ss token request a answer.Fault w.0 w.1 (tt, inl refl)
+-- so a call that is worked
+pub works : (b : Option Break) (g : Schema) (name : List ℕ) (ss after : List Settled) (token : ℕ) (request : Request) (r : Result Answer AllocError) → is_lane_name name ≡ true → token < 2 ^ 64 → IsSoundTable name ss → IfSome b (λ x. may_break x ≡ true) → IfOk r (λ a. IsWorked b (settlement_of token ss) (new_entry b g name token request ss) ss after a) → IfOk r (λ a. AnswersInLane name a × LaneMove name (lane_of ss) (lane_of after) token request a)
+works b g name ss after token request (Ok a) n t k f w = worked_moves b g name ss after token request (settlement_of token ss) a n t k f refl w
+works b g name ss after token request (Err e) n t k f w = tt
 
-pub table_moves : (b : Option Break) (g : Schema) (name : List ℕ) (ss after : List Settled) (token : ℕ) (request : Request) (a : Answer) → is_lane_name name ≡ true → token < 2 ^ 64 → IsSoundTable name ss → IfSome b (λ x. may_break x ≡ true) → AnswersByTable b g name token request ss after a → IsShort a × LaneMove name (lane_of ss) (lane_of after) token request a
-table_moves b g name ss after token request a n t k f (inl w) = moves_as name ss after ss token request a answer.NoMemory w.0 w.1 (tt, refl)
-table_moves b g name ss after token request a n t k f (inr w) = told_moves b g name ss after token request a n t k f w
-
--- The handler stays as it promises, whether the call was settled or there was no room.
-pub kept_after : (b : Option Break) (g : Schema) (name : List ℕ) (ss after : List Settled) (token : ℕ) (request : Request) (s : Settlement) (r : Result (Unit {0}) AllocError) → is_lane_name name ≡ true → token < 2 ^ 64 → IsSoundTable name ss → settlement_of token ss ≡ None → IfSome b (λ x. may_break x ≡ true) → s ≡ settled_by b (answer_to g name token (live_of (lane_of ss)) request) → IfOk r (λ _. after ≡ ss ++ record { token = token; request = request; settlement = s } ∷ []) → OnErr r (after ≡ ss) → IsSoundTable name after
-kept_after b g name ss after token request s (Ok x) n t k e f d o w =
-    subst (IsSoundTable name) (sym (o ∙ ap (λ (y : Settlement). ss ++ record { token = token; request = request; settlement = y } ∷ []) d)) (kept_more b g name ss token request n t k e f)
-kept_after b g name ss after token request s (Err x) n t k e f d o w = subst (IsSoundTable name) (sym w) k
+-- The handler stays as it promises, whether a token was settled or there was no room.
+pub kept_after : (name : List ℕ) (ss after : List Settled) (x : Settled) (r : Result (Unit {0}) AllocError) → IsSoundTable name ss → IsSoundTable name (ss ++ x ∷ []) → IfOk r (λ _. after ≡ ss ++ x ∷ []) → OnErr r (after ≡ ss) → IsSoundTable name after
+kept_after name ss after x (Ok y) k k' o w = subst (IsSoundTable name) (sym o) k'
+kept_after name ss after x (Err y) k k' o w = subst (IsSoundTable name) (sym w) k
 
 pub same_after : (ss after : List Settled) (live live' : List LiveResource) (token : ℕ) (request : Request) (s : Settlement) (r : Result (Unit {0}) AllocError) → lives live ≡ live_of (lane_of ss) → IfOk r (λ _. after ≡ ss ++ record { token = token; request = request; settlement = s } ∷ []) → IfOk r (λ _. lives live' ≡ live_changed request s (lives live)) → OnErr r (after ≡ ss) → OnErr r (live' ≡ live) → lives live' ≡ live_of (lane_of after)
 same_after ss after live live' token request s (Ok x) e o l w v =

@@ -1,3 +1,4 @@
 pub mod Changes
 pub mod Keeps
 pub mod Free
+pub mod Acting

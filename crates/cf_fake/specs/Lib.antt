@@ -4,5 +4,7 @@ pub mod Noted
 pub mod Sound
 pub mod Refusable
 pub mod Plan
+pub mod Late
 pub mod Call
+pub mod Kept
 pub mod Codes

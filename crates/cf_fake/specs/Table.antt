@@ -12,6 +12,8 @@ use Rattle.cf_tree.specs.Same.{same_data}
 use Rattle.cf_tree.specs.SizeOf.{size_of_dict}
 use Rattle.cf_tree.specs.declared.request.Request.{Request}
 use Rattle.cf_tree.specs.declared.request.Request.TheVariants.{Create, Update, Delete}
+use Rattle.cf_tree.specs.declared.request.Look.{Look}
+use Rattle.cf_tree.specs.declared.request.Look.TheVariants as look
 use Rattle.cf_tree.specs.declared.code.Code.TheVariants.{NotFound, InvalidRequest, AlreadyExists, NotUpdatable}
 use Rattle.cf_schema.specs.declared.described.Schema.{Schema}
 use Rattle.cf_schema.specs.Change.{differs_at, any_differs}
@@ -99,3 +101,8 @@ abbrev pub answer_to : Schema → List ℕ → ℕ → List Live → Request →
 answer_to g name token live (Create kind props) = create_answer g name token props live
 answer_to g name token live (Update id props) = update_answer g id props (find (is_of_id id) live)
 answer_to g name token live (Delete id) = delete_answer id (find (is_of_id id) live)
+
+-- a look shows what is live
+abbrev pub look_at : Option Live → Look
+look_at (Some r) = look.Found r.props r.attrs
+look_at None = look.Failed NotFound

@@ -15,7 +15,7 @@ use cf_tree::{Answer, Code, Dict, Request, Txt};
 use std::alloc::{AllocError, Global};
 
 /// The live resource of an id.
-fn found<'a>(live: &'a [LiveResource], id: &Txt) -> Option<&'a LiveResource>
+pub fn found<'a>(live: &'a [LiveResource], id: &Txt) -> Option<&'a LiveResource>
     ensures { option_map live_as (option_copied result) ≡ find (is_of_id id.now) (lives live.now) }
 {
     for resource in live.iter() {
@@ -139,7 +139,9 @@ pub fn told_by(
     match planned {
         Some(Break::FaultBefore) => Ok(Answer::Fault),
         Some(Break::FaultAfter) => Ok(Answer::Fault),
+        Some(Break::FaultLater(_)) => Ok(Answer::Fault),
         Some(Break::Refuse(_)) => settlement.answer(alloc),
+        Some(Break::FenceFault) => settlement.answer(alloc),
         None => settlement.answer(alloc),
     }
 }

@@ -2,12 +2,15 @@
 #![tactic(auto)]
 
 mod answer;
+mod late;
 mod live;
 mod memory;
 mod noted;
 mod plan;
 mod planned;
+mod store;
 mod table;
+mod waiting;
 
 pub use live::LiveResource;
 pub use memory::MemoryHandler;

@@ -1,6 +1,6 @@
 //! What becomes of a call of a handler in memory.
 ghost use Rattle.std.specs.Prelude.{◌≡◌, IsTrue, IfSome};
-ghost use Rattle.cf_fake.specs.Plan.{break_at};
+ghost use Rattle.cf_fake.specs.Plan.{break_at, breaks_fence};
 ghost use Rattle.cf_fake.specs.Refusable.{may_break};
 
 use crate::planned::{Break, Planned};
@@ -20,4 +20,16 @@ pub fn break_at(plan: &Plan, call: u64) -> Option<Break>
         }
     }
     None
+}
+
+/// Whether the first raising of the fence is broken.
+pub fn breaks_fence(plan: &Plan) -> bool
+    ensures { result ≡ breaks_fence plan.now }
+{
+    for planned in plan.as_slice().iter() {
+        if let Break::FenceFault = planned.break_ {
+            return true;
+        }
+    }
+    false
 }

@@ -14,4 +14,5 @@ abbrev pub settlement_in : Answer → Option Settlement
 settlement_in (answer.Success physical attrs) = Some (Success physical attrs)
 settlement_in (answer.Failed code) = Some (Failed code)
 settlement_in answer.Fault = None
+settlement_in (answer.Stale fence) = None
 settlement_in answer.NoMemory = None

@@ -7,6 +7,8 @@ use Rattle.cf_tree.specs.declared.request.Answer.{Answer}
 use Rattle.cf_tree.specs.declared.request.Answer.TheVariants as answer
 use Rattle.cf_handler.specs.declared.settled.Settlement.{Settlement}
 use Rattle.cf_handler.specs.declared.settled.Settled.{Settled}
+use Rattle.cf_handler.specs.declared.fence.FenceAnswer.{FenceAnswer}
+use Rattle.cf_handler.specs.declared.fence.FenceAnswer.TheVariants.{Raised, Ahead, Fault}
 use Rattle.cf_handler.specs.Lane.{LaneState, Live, live_of, settlement_of}
 use Rattle.cf_handler.specs.Move.{MaySettle, LaneMove, with_settled}
 use Rattle.cf_tree.specs.Counts.{HasRisen}
@@ -43,16 +45,13 @@ MayActLater before after epoch token request =
     × (after ≡ with_flying before (record { epoch = epoch; token = token; request = request }))
 
 -- what a call of an opening may do to a lane: an answer and a fault come only where the fence lets it through, and after a fault it may
--- also act later
+-- also act later; a call before the fence is stale, which tells the fence and changes nothing
 abbrev pub CallMove : List ℕ → FencedLane → FencedLane → ℕ → ℕ → Request → Answer → Type 0
 CallMove name before after epoch token request answer.Fault =
     (before.fence ≤ epoch) × (MovesState name before after token request answer.Fault ⊎ MayActLater before after epoch token request)
+CallMove name before after epoch token request (answer.Stale fence) = (epoch < before.fence) × (fence ≡ before.fence) × (after ≡ before)
 CallMove name before after epoch token request answer.NoMemory = after ≡ before
 CallMove name before after epoch token request a = (before.fence ≤ epoch) × MovesState name before after token request a
-
--- a call of an opening before the fence is refused as stale: it tells the fence and changes nothing
-abbrev pub IsStale : FencedLane → FencedLane → ℕ → ℕ → Type 0
-IsStale before after epoch fence = (epoch < before.fence) × (fence ≡ before.fence) × (after ≡ before)
 
 -- what a call leaves on its lane: nothing, its token settled, or itself, to act later
 pub data Left : Type 0 where
@@ -88,17 +87,13 @@ pub record LateMove (name : List ℕ) (before after : FencedLane) (place : ℕ) 
   pub fits : MaySettle name before.state flying.request s
   pub leaves : after ≡ late_by place s before
 
--- raising the fence: it becomes the epoch where it is below it, else the lane is ahead; after a fault it is the old one or the epoch
-pub data FenceAnswer : Type 0 where
-  Raised : FenceAnswer
-  Ahead : (fence : ℕ) → FenceAnswer
-  Broken : FenceAnswer
-
+-- the lane with its fence at this epoch
 abbrev pub raised_to : FencedLane → ℕ → FencedLane
 raised_to lane epoch = record lane { fence = epoch }
 
+-- raising the fence: it becomes the epoch where it is below it, else the lane is ahead; after a fault it is the old one or the epoch
 abbrev pub FenceMove : FencedLane → FencedLane → ℕ → FenceAnswer → ℕ → ℕ → Type 0
 FenceMove before after epoch Raised count counted = (before.fence < epoch) × (after ≡ raised_to before epoch)
 FenceMove before after epoch (Ahead fence) count counted = (epoch ≤ before.fence) × (fence ≡ before.fence) × (after ≡ before)
-FenceMove before after epoch Broken count counted =
+FenceMove before after epoch Fault count counted =
     HasRisen count counted × (before.fence < epoch) × ((after ≡ before) ⊎ (after ≡ raised_to before epoch))

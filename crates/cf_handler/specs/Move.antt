@@ -20,6 +20,7 @@ abbrev pub RoseIfFailed : Answer → ℕ → ℕ → Type 0
 RoseIfFailed (answer.Success physical attrs) before after = Unit {0}
 RoseIfFailed (answer.Failed code) before after = HasRisen before after
 RoseIfFailed answer.Fault before after = HasRisen before after
+RoseIfFailed (answer.Stale fence) before after = Unit {0}
 RoseIfFailed answer.NoMemory before after = Unit {0}
 
 -- the count never falls, and each refusal and fault has it for its cause
@@ -35,11 +36,17 @@ abbrev pub IsShort : Answer → Type 0
 IsShort (answer.Success physical attrs) = (length physical ≤ most_id_bytes) × AreShort attrs
 IsShort (answer.Failed code) = Unit {0}
 IsShort answer.Fault = Unit {0}
+IsShort (answer.Stale fence) = Unit {0}
 IsShort answer.NoMemory = Unit {0}
 
 -- the id begins with the lane's name and a colon
 abbrev pub IsOfLane : List ℕ → List ℕ → Type 0
 IsOfLane name id = (rest : List ℕ) × (id ≡ name ++ 58 ∷ rest)
+
+-- what a creation made has an id of the lane
+abbrev pub CreatesInLane : List ℕ → Request → Answer → Type 0
+CreatesInLane name (Create kind props) (answer.Success physical attrs) = IsOfLane name physical
+CreatesInLane name request a = Unit {0}
 
 -- a lane of this type may take the request: a create is of the lane's type
 abbrev pub IsKindFor : Request → List ℕ → Type 0
@@ -48,12 +55,12 @@ IsKindFor (Update id props) kind = Unit {0}
 IsKindFor (Delete id) kind = Unit {0}
 
 -- what a new token may be settled with: a created id is of the lane and new, an update and a deletion answer their own id, which was live,
--- a deletion has no attributes, and finds nothing only where nothing is live
+-- attributes are within their limit, and a deletion finds nothing only where nothing is live
 abbrev pub MaySettle : List ℕ → LaneState → Request → Settlement → Type 0
 MaySettle name lane (Create kind props) (Success id attrs) =
     IsOfLane name id × (length id ≤ most_id_bytes) × (is_used id lane ≡ false) × AreShort attrs
 MaySettle name lane (Update id props) (Success physical attrs) = (physical ≡ id) × IsTrue (has_id id (live_of lane)) × AreShort attrs
-MaySettle name lane (Delete id) (Success physical attrs) = (physical ≡ id) × IsTrue (has_id id (live_of lane)) × (attrs ≡ [])
+MaySettle name lane (Delete id) (Success physical attrs) = (physical ≡ id) × IsTrue (has_id id (live_of lane)) × AreShort attrs
 MaySettle name lane (Delete id) (Failed NotFound) = has_id id (live_of lane) ≡ false
 MaySettle name lane _ (Failed code) = Unit {0}
 
@@ -70,16 +77,11 @@ SettlesBy None name before after token request s =
 abbrev pub Settles : List ℕ → LaneState → LaneState → ℕ → Request → Settlement → Type 0
 Settles name before after token request s = SettlesBy (settlement_of token before.settled) name before after token request s
 
--- what a call may do to a lane
+-- what a call may do to what a lane holds
 abbrev pub LaneMove : List ℕ → LaneState → LaneState → ℕ → Request → Answer → Type 0
 LaneMove name before after token request (answer.Success physical attrs) = Settles name before after token request (Success physical attrs)
 LaneMove name before after token request (answer.Failed code) = Settles name before after token request (Failed code)
 LaneMove name before after token request answer.Fault =
     (after ≡ before) ⊎ ((s : Settlement) × (settlement_of token before.settled ≡ None) × Settles name before after token request s)
+LaneMove name before after token request (answer.Stale fence) = after ≡ before
 LaneMove name before after token request answer.NoMemory = after ≡ before
-
--- the same of a handler that tells its lane, and of one that does not
-abbrev pub CallTells : List ℕ → Option LaneState → Option LaneState → ℕ → Request → Answer → Type 0
-CallTells name None after token request result = after ≡ None
-CallTells name (Some before) after token request result =
-    (lane : LaneState) × (after ≡ Some lane) × LaneMove name before lane token request result

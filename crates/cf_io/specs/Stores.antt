@@ -1,8 +1,9 @@
 -- What the stores in memory hold and which of their calls fail, and what a folder gives (this project's own).
-use Rattle.std.specs.Prelude.{◌≡◌, ◌≢◌, ◌≤◌, ◌==◌, ◌&&◌, ℕ, Bool, true, false, not, List, [], ◌∷◌, length, map, IfSome, Option, Result, Err}
+use Rattle.std.specs.Prelude.{◌≡◌, ◌≢◌, ◌≤◌, ◌==◌, ◌&&◌, ℕ, Bool, true, false, not, List, [], ◌∷◌, length, map, IfSome, Option, Result, Err, string_bytes}
 use Rattle.std.specs.List.{list_any}
 use Rattle.std.specs.Global.{Vec}
 use Rattle.cf_io.specs.Library.{Texts}
+use Rattle.cf_io.specs.declared.folder_library.FolderLibrary.{FolderLibrary}
 
 -- the names and bytes of a list of texts
 abbrev pub stored_texts : List (List ℕ × Vec ℕ) → Texts
@@ -16,6 +17,10 @@ is_planned fails call = list_any (λ n. n == call) fails
 abbrev pub FailsWhere : {A E : Type 0} → E → Bool → Result A E → Type 0
 FailsWhere failure true result = result ≡ Err failure
 FailsWhere failure false result = result ≢ Err failure
+
+-- the folder of a library
+abbrev pub folder_of : {R F G : Type 0} → FolderLibrary R F G → List ℕ
+folder_of l = string_bytes l.folder
 
 -- whether a name may stand for a file of a folder: it is not empty, does not begin with a dot (46) and holds
 -- no slash (47) (this project's own)

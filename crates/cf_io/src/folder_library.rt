@@ -1,6 +1,6 @@
 ghost use Rattle.std.specs.Prelude.{◌≡◌, ◌≤◌, ◌++◌, ◌∷◌, length, false, IfOk, Ok, Err, None, string_bytes};
 ghost use Rattle.cf_io.specs.Library.{Fetches, HasFetchCause, CountsMisses};
-ghost use Rattle.cf_io.specs.Stores.{is_file_name, most_file_bytes, IsBounded};
+ghost use Rattle.cf_io.specs.Stores.{folder_of, is_file_name, most_file_bytes, IsBounded};
 
 use crate::library::{FetchFault, Library};
 use std::alloc::{AllocError, Global};
@@ -29,6 +29,7 @@ pub struct FolderLibrary<R: Files + AllocGlobal + Drop> {
 impl<R: Files + AllocGlobal + Drop> FolderLibrary<R> {
     /// The library of this folder, which is not opened yet.
     pub fn new(rt: R, folder: String) -> FolderLibrary<R>
+        ensures folder { folder_of result ≡ string_bytes folder }
         ensures faultless { ⟦<FolderLibrary<R> as Library>⟧.count result ≡ 0 }
         ensures unmissed { ⟦<FolderLibrary<R> as Library>⟧.missed result ≡ 0 }
     {
@@ -45,6 +46,7 @@ impl<R: Files + AllocGlobal + Drop> FolderLibrary<R> {
         ensures none { result ≡ None }
         ensures faults { self.new.faults ≡ self.old.faults }
         ensures misses { CountsMisses self.old.misses self.new.misses (Ok result) }
+        ensures folder { self.new.folder ≡ self.old.folder }
     {
         self.misses = self.misses.saturating_add(1);
         None
@@ -54,6 +56,7 @@ impl<R: Files + AllocGlobal + Drop> FolderLibrary<R> {
     fn failed(&mut self, error: &io::Error) -> FetchFault
         ensures cause { HasFetchCause self.old.faults self.new.faults (Err result) }
         ensures misses { self.new.misses ≡ self.old.misses }
+        ensures folder { self.new.folder ≡ self.old.folder }
     {
         if error.kind() == ErrorKind::OutOfMemory {
             return FetchFault::NoMemory;
@@ -141,6 +144,7 @@ impl<R: Files + AllocGlobal + Drop> Library for FolderLibrary<R> {
         ensures misses { CountsMisses self.old.misses self.new.misses result }
         ensures outside { is_file_name name.now ≡ false → result ≡ Ok None }
         ensures bounded { IfOk result IsBounded }
+        ensures folder { folder_of self.new ≡ folder_of self.old }
     {
         if !is_file_name(name) {
             return Ok(self.missed());

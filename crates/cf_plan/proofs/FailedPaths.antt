@@ -48,9 +48,6 @@ or_assoc None b c = refl
 or_assoc (Some y) b c = refl
 
 module _ (s : StackState) (p : List ℕ) where
-  at_path : Response → Bool
-  at_path r = has_path p (call_under r.token s)
-
   abbrev last_in : List Entry → Option Response
   last_in es = find (λ r. has_path p (call_under r.token s)) (reverse (replies_in (filter (is_of s.operation) es)))
 

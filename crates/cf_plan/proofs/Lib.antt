@@ -4,12 +4,10 @@ pub mod StatesDone
 pub mod StatesRead
 pub mod StatesOpen
 mod NoneNested
-pub mod CreatedSeen
 pub mod CreatedStays
 pub mod CreatedRight
 pub mod CreatedWhole
 pub mod CreatedEnd
-pub mod CreatedNext
 pub mod FailedPaths
 pub mod Members
 pub mod OfLane
@@ -25,31 +23,18 @@ pub mod Least
 pub mod Causing
 pub mod FailingCalls
 pub mod Starting
+pub mod Proper
 pub mod AtHome
 pub mod StartsListed
 pub mod Begins
 pub mod RunLists
 pub mod RunLanes
-pub mod KeepingSettle
-pub mod KeepingTold
-pub mod KeepingWorld
-pub mod KeepingSteps
-pub mod KeepingOutcome
-pub mod KeepingEnd
-pub mod KeepingRun
-pub mod KeepingStarts
 pub mod Going
 pub mod Cleared
 pub mod BlameOrder
-pub mod BlameLanes
-pub mod BlameBooks
 pub mod BlameAnswer
 pub mod BlameRows
 pub mod BlameMade
-pub mod BlameCourse
-pub mod BlameSteps
-pub mod BlameEnd
-pub mod BlameRun
 pub mod Frame
 mod Owned
 mod Successes
@@ -60,4 +45,7 @@ pub mod FailedFound
 pub mod PropsStay
 pub mod RowsFound
 pub mod WholeFound
+pub mod InFlight
 mod NameSets
+pub mod SameSchemas
+pub mod SameAccepted

@@ -86,11 +86,6 @@ pub in_reversed : {A : Type 0} (y : A) (xs : List A) → In y (reverse xs) → I
 in_reversed y [] i = i
 in_reversed y (x ∷ xs) i = in_more (λ z. In z (x ∷ xs)) x (reverse xs) (λ z j. there (in_reversed z xs j)) here y (subst (In y) (reversed_one x xs) i)
 
-pub to_reversed : {A : Type 0} (y : A) (xs : List A) → In y xs → In y (reverse xs)
-to_reversed y (x ∷ xs) here = subst (In y) (sym (reversed_one y xs)) (in_end y (reverse xs))
-to_reversed y (x ∷ xs) (there i) = subst (In y) (sym (reversed_one x xs)) (in_front y (reverse xs) (x ∷ []) (to_reversed y xs i))
-to_reversed y [] i = elim i [ ]
-
 pub reversed_more : {A : Type 0} (x : A) (xs : List A) → reverse (xs ++ x ∷ []) ≡ x ∷ reverse xs
 reversed_more x xs = reverse-append xs (x ∷ [])
 

@@ -54,15 +54,6 @@ at_its_place first (q ∷ ps) a (suc i) p e = let h = at_its_place (suc first) p
 
 -- what a pass adds does not change what came before
 module _ where
-  pub passed_length : (ps : List PathState) (done : List Bool) → length done ≤ length (fold with_done done ps)
-  passed_length [] done = omega arith
-  passed_length (p ∷ ps) done =
-      let h = passed_length ps (with_done done p) in let k = grown done (is_done_by done p) in omega (arith, h, k)
-    where
-      grown : (xs : List Bool) (x : Bool) → length (xs ++ x ∷ []) ≡ suc (length xs)
-      grown [] x = refl
-      grown (y ∷ ys) x = ap suc (grown ys x)
-
   pub grown : (xs : List Bool) (x : Bool) → length (xs ++ x ∷ []) ≡ suc (length xs)
   grown [] x = refl
   grown (y ∷ ys) x = ap suc (grown ys x)

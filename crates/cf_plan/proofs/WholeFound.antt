@@ -33,7 +33,7 @@ use Rattle.cf_plan.proofs.CreatedEnd.{in_changed}
 use Rattle.cf_plan.proofs.CreatedRight.{in_filter, not_so}
 use Rattle.cf_desired.proofs.Planned.{plan_known}
 use Rattle.cf_plan.proofs.OneShape.{plan_paths}
-use Rattle.cf_plan.proofs.CreatedSeen.{shown_at}
+use Rattle.cf_effect.proofs.Shown.{shown_at}
 use Rattle.cf_entry.proofs.Codec.{some_is}
 use Rattle.std.specs.Prelude.{cond, unwrap_or, ◌≢◌}
 use Rattle.cf_effect.specs.Listed.{export_by, is_export_before, not_export_of, reexported}

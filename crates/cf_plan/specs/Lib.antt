@@ -16,14 +16,11 @@ pub mod Starts
 pub mod Lanes
 pub mod Ends
 pub mod Life
+pub mod Proper
 pub mod Promise
 pub mod Created
 pub mod Homes
 pub mod Progress
 pub mod Blaming
 pub mod Run
-pub mod Keeping
-pub mod Blame
-pub mod RunBegins
-pub mod Going
-pub mod Cleared
+pub mod SameSchemas

@@ -11,7 +11,8 @@ use Rattle.cf_handler.specs.declared.settled.Settlement.TheVariants as settlemen
 use Rattle.cf_handler.specs.Lane.{live_of}
 use Rattle.cf_handler.specs.Answered.{settlement_in}
 use Rattle.cf_handler.specs.Move.{HasCause}
-use Rattle.cf_handler.specs.Fence.{FencedLane, CallMove, IsStale, Left, left_by, late_by, LateMove, FenceAnswer, FenceMove, raised_to}
+use Rattle.cf_handler.specs.declared.fence.FenceAnswer.{FenceAnswer}
+use Rattle.cf_handler.specs.Fence.{FencedLane, CallMove, Left, left_by, late_by, LateMove, FenceMove, raised_to}
 use Rattle.cf_entry.specs.declared.entry.Entry.{Entry}
 use Rattle.cf_entry.specs.declared.entry.Entry.TheVariants as entry
 use Rattle.cf_entry.specs.declared.entry.Reply.TheVariants as reply
@@ -28,10 +29,9 @@ use Rattle.cf_plan.specs.Follow.{MayFollow, MayRepeat, is_lane_leased}
 use Rattle.cf_schema.specs.declared.described.Schema.{Schema}
 use Rattle.cf_plan.specs.Lanes.{Lane, AreLanes, AreSchemas, lane_at}
 
--- what a call came to: an answer, or that its opening is past
+-- what a call came to: an answer, with the lane's counts of faults before and after it
 pub data CallEnd : Type 0 where
   Answered : (answer : Answer) (before after : ℕ) → CallEnd
-  Stale : (fence : ℕ) → CallEnd
 
 -- a call that was granted, and what it came to
 pub record Lease : Type 0 where
@@ -141,8 +141,8 @@ IsOutcomeOf lease (Answered (answer.Success physical attrs) before after) e =
 IsOutcomeOf lease (Answered (answer.Failed code) before after) e =
     e ≡ entry.Outcome lease.number lease.token (reply.Failed code) before after
 IsOutcomeOf lease (Answered answer.Fault before after) e = e ≡ entry.Outcome lease.number lease.token reply.Doubt before after
+IsOutcomeOf lease (Answered (answer.Stale fence) before after) e = ⊥
 IsOutcomeOf lease (Answered answer.NoMemory before after) e = ⊥
-IsOutcomeOf lease (Stale fence) e = ⊥
 
 -- the open call of a token of this stack, at this stage, may be made again
 pub record MayBeRepeated (schemas : List Schema) (life : Life) (token : ℕ) (name : List ℕ) (s : StackState) (stage : Stage)
@@ -203,7 +203,6 @@ life_after life Crash = record life { leases = []; is_open = false; has_granted 
 abbrev pub MayLeave : Lane → FencedLane → ℕ → Lease → CallEnd → Type 0
 MayLeave lane after epoch lease (Answered a before counted) =
     HasCause before counted a × CallMove lane.name lane.state after epoch lease.token lease.request a
-MayLeave lane after epoch lease (Stale fence) = IsStale lane.state after epoch fence
 
 -- the fence of a lane, moved or not
 abbrev pub fenced : Bool → ℕ → FencedLane → FencedLane
@@ -245,7 +244,6 @@ IsLife schemas life (e ∷ es) end = Happens schemas life e × IsLife schemas (l
 -- the answer for good of a call that came to its end
 abbrev pub settled_reply : CallEnd → Option Settlement
 settled_reply (Answered a before after) = settlement_in a
-settled_reply (Stale fence) = None
 
 -- A call that is out is of the operation in progress of its stack, also where its token was given up meanwhile: so its
 -- lane counts as out, and the operation does not end before it is back.

@@ -32,12 +32,7 @@ pub use failing::{difference_to, first_failing};
 pub use forward::{Wants, is_free, wants_at};
 pub use found::{Found, finding_at, is_held_right, wanted_at};
 pub use lanes::{first_home, is_lane_leased, is_of_lane};
-pub use laws::{
-    answer_follows, begins_right, create_ends_whole, create_goes_on, created_is_whole,
-    creation_begins, creation_ends, creation_finds_nothing, creation_goes_on, creation_is_proper,
-    creation_keeps_promise, creation_starts, flawless_has_one_shape, intent_opens,
-    intent_stays_right, opening_stays_right, outcome_stays_right,
-};
+pub use laws::granted_is_proper;
 pub use overview::{Overview, overview_of};
 pub use progress::{Progress, progress_of};
 pub use repeats::{

@@ -14,7 +14,7 @@ use cf_tree::{Code, NoMemory};
 use std::alloc::Global;
 
 /// The lane `NAME TYPE FAULT, FAULT ..`, where TYPE is `files` or `records`, and FAULT a call's number with `before`,
-/// `after`, `memory` or `refuse CODE`. None where its name is no lane's.
+/// `after`, `later CALLS`, `memory` or `refuse CODE`, or `0 fence`. None where its name is no lane's.
 pub fn lane_of(memory: &mut Memory, text: &str) -> Option<Recorder> {
     let (name, rest) = cut(text);
     let (kind, faults) = cut(rest);
@@ -92,19 +92,28 @@ fn short_of(memory: &mut Memory, faults: &str) -> Vec<u64> {
 }
 
 fn planned_of(call: u64, how: &str) -> Option<Planned> {
-    match how {
-        "before" => Some(Planned {
+    match cut(how) {
+        ("before", _) => Some(Planned {
             call,
             break_: Break::FaultBefore,
         }),
-        "after" => Some(Planned {
+        ("after", _) => Some(Planned {
             call,
             break_: Break::FaultAfter,
         }),
-        _ => match code_of(how.strip_prefix("refuse ").unwrap_or("")) {
+        ("later", calls) => Some(Planned {
+            call,
+            break_: Break::FaultLater(number_of(calls)),
+        }),
+        ("fence", _) => Some(Planned {
+            call: 0,
+            break_: Break::FenceFault,
+        }),
+        ("refuse", name) => match code_of(name) {
             Some(code) => refused(call, code),
             None => None,
         },
+        _ => None,
     }
 }
 

@@ -1,13 +1,23 @@
 //! A lane that notes its calls.
+ghost use Rattle.std.specs.Prelude.{◌≡◌};
+
 use crate::lines::Lines;
 use crate::words::Line;
 use cf_fake::MemoryHandler;
-use cf_handler::Handler;
+use cf_handler::{FenceAnswer, Handler};
 use cf_rows::Memory;
 use cf_schema::Schema;
-use cf_tree::{Answer, Request};
+use cf_tree::{Answer, Look, Request, Txt};
 use std::alloc::Global;
 use std::mem;
+
+/// A call that was made.
+#[derive(Drop)]
+struct Made {
+    epoch: u64,
+    token: u64,
+    request: Request,
+}
 
 /// A handler in memory, each of whose calls is noted as a line `LANE TOKEN REQUEST -> ANSWER`. In the calls of the numbers
 /// in `short`, counted from 1, it has no memory, and does nothing.
@@ -17,6 +27,7 @@ pub struct Recorder {
     handler: MemoryHandler,
     short: Vec<u64>,
     calls: u64,
+    made: Vec<Made>,
     notes: Lines,
     /// Whether memory was wanting for a note.
     is_lost: bool,
@@ -30,6 +41,7 @@ impl Recorder {
             handler,
             short,
             calls: 0,
+            made: Vec::new(alloc),
             notes: Lines::new(alloc),
             is_lost: false,
         }
@@ -38,6 +50,35 @@ impl Recorder {
     /// The handler, which holds the resources.
     pub fn handler(&self) -> &MemoryHandler {
         &self.handler
+    }
+
+    /// Makes the last call of a token once more, as it was made. Whether there was one.
+    pub fn call_again(&mut self, token: u64) -> bool {
+        match self.made.iter().rev().find(|made| made.token == token) {
+            Some(made) => {
+                drop(self.handler.call(made.epoch, token, &made.request));
+                true
+            }
+            None => false,
+        }
+    }
+
+    /// Keeps a call that is made.
+    fn keep(&mut self, memory: &mut Memory, epoch: u64, token: u64, request: &Request)
+        ensures { self.new.handler ≡ self.old.handler }
+    {
+        match request.try_clone(self.alloc) {
+            Ok(request) => memory.note(
+                self.made
+                    .push(Made {
+                        epoch,
+                        token,
+                        request,
+                    })
+                    .is_err(),
+            ),
+            Err(_) => memory.lose(),
+        }
     }
 
     /// The lines of the calls that were made since this was asked last.
@@ -79,17 +120,26 @@ impl Handler for Recorder {
         self.handler.faults()
     }
 
-    fn call(&mut self, token: u64, request: &Request) -> Answer {
+    fn fence(&mut self, epoch: u64) -> FenceAnswer {
+        self.handler.fence(epoch)
+    }
+
+    fn call(&mut self, epoch: u64, token: u64, request: &Request) -> Answer {
         self.calls = self.calls.saturating_add(1);
         let answer = if self.short.contains(&self.calls) {
             Answer::NoMemory
         } else {
-            self.handler.call(token, request)
+            self.handler.call(epoch, token, request)
         };
         let mut memory = Memory::new(self.alloc);
         let line = note(&mut memory, self.handler.name(), token, request, &answer);
         self.notes.push(&mut memory, line);
+        self.keep(&mut memory, epoch, token, request);
         self.is_lost = self.is_lost || memory.end().is_err();
         answer
+    }
+
+    fn read(&mut self, epoch: u64, physical: &Txt) -> Look {
+        self.handler.read(epoch, physical)
     }
 }

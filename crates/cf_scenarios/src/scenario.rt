@@ -182,10 +182,14 @@ impl Scenario {
             "alone" => self.run(memory, shelf, Top::Alone, rest),
             "answer" => self.run(memory, shelf, Top::Answer, rest),
             "room" => self.room = number_of(rest),
-            "disk" => self.bytes = unescaped(memory, rest),
+            "disk" => {
+                self.bytes = unescaped(memory, rest);
+                self.entries = 0;
+            }
             "fuse" => self.failing.fuse = number_of(rest),
             "lane" => return self.add_lane(memory, rest),
             "without" => return self.drop_lane(rest),
+            "again" => return self.call_again(rest),
             "fail" => return self.add_failing(memory, rest),
             _ => return false,
         }
@@ -211,6 +215,18 @@ impl Scenario {
                 }
                 true
             }
+            None => false,
+        }
+    }
+
+    /// Lets the last call of a token come to its lane once more: `LANE TOKEN`. Whether there was one.
+    fn call_again(&mut self, text: &str) -> bool {
+        let (name, token) = cut(text);
+        match place_of(self.lanes.as_slice(), name) {
+            Some(at) => match self.lanes.get_mut(at) {
+                Some(lane) => lane.call_again(number_of(token)),
+                None => false,
+            },
             None => false,
         }
     }

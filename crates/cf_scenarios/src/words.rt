@@ -139,6 +139,10 @@ impl Line {
                 self.word(code.name());
             }
             Answer::Fault => self.word("fault"),
+            Answer::Stale { fence } => {
+                self.word("stale");
+                self.number_word(*fence);
+            }
             Answer::NoMemory => self.word("memory"),
         }
     }

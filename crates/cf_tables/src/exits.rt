@@ -92,6 +92,11 @@ fn exit_of(memory: &mut Memory, name: &str, fields: &str, words: &str) -> Option
         "LaneTwice" => Some(Exit::LaneTwice {
             name: memory.text(fields),
         }),
+        "LaneAhead" => ahead(memory, fields),
+        "LaneFault" => Some(Exit::LaneFault {
+            name: memory.text(fields),
+        }),
+        "StackRefused" => stack_refused(memory, fields),
         _ => plain_exit(name, fields),
     }
 }
@@ -101,7 +106,6 @@ fn plain_exit(name: &str, fields: &str) -> Option<Exit> {
     match name {
         "Done" => Some(Exit::Done),
         "BadWords" => Some(Exit::BadWords),
-        "StackRefused" => stack_refused(fields),
         "LibraryFault" => Some(Exit::LibraryFault),
         "DiskFault" => Some(Exit::DiskFault),
         "SinkFault" => Some(Exit::SinkFault),
@@ -124,11 +128,51 @@ fn full(fields: &str) -> Option<Exit> {
     })
 }
 
-fn stack_refused(fields: &str) -> Option<Exit> {
+fn ahead(memory: &mut Memory, fields: &str) -> Option<Exit> {
+    let (name, rest) = cut(fields);
+    let (fence, epoch) = cut(rest);
+    match (number_of(fence), number_of(epoch)) {
+        (Some(fence), Some(epoch)) => Some(Exit::LaneAhead {
+            name: memory.text(name),
+            fence,
+            epoch,
+        }),
+        _ => None,
+    }
+}
+
+fn stack_refused(memory: &mut Memory, fields: &str) -> Option<Exit> {
+    let fault = match cut(fields) {
+        ("NotFailed", path) => StackFault::NotFailed {
+            path: memory.text(path),
+        },
+        ("TypeChanged", path) => StackFault::TypeChanged {
+            path: memory.text(path),
+        },
+        ("ExportTaken", name) => StackFault::ExportTaken {
+            name: memory.text(name),
+        },
+        ("ExportInUse", name) => StackFault::ExportInUse {
+            name: memory.text(name),
+        },
+        _ => return plain_refusal(fields),
+    };
+    Some(Exit::StackRefused { fault })
+}
+
+/// A refusal of a stack that takes no memory.
+fn plain_refusal(fields: &str) -> Option<Exit> {
     let fault = match cut(fields) {
         ("NoStack", "") => StackFault::NoStack,
         ("WrongStatus", name) => StackFault::WrongStatus {
             status: status_of(name)?,
+        },
+        ("NoChangeSet", number) => StackFault::NoChangeSet {
+            number: number_of(number)?,
+        },
+        ("NoChanges", "") => StackFault::NoChanges,
+        ("Outdated", number) => StackFault::Outdated {
+            number: number_of(number)?,
         },
         _ => return None,
     };

@@ -4,4 +4,5 @@ pub mod References
 pub mod Escapes
 pub mod Holes
 pub mod Steps
+pub mod Lengths
 pub mod Ordered

@@ -118,8 +118,7 @@ pub(crate) fn get_att(
     match argument {
         Value::String(text) => dotted(alloc, text.as_str(), at),
         Value::Array(items) => {
-            let mut left = items.iter();
-            let (Some(id), Some(attribute), None) = (left.next(), left.next(), left.next()) else {
+            let [id, attribute] = items.as_slice() else {
                 return Err(TemplateFault::WrongShape { path: at });
             };
             get_att_parts(alloc, params, id, attribute, &at)

@@ -111,8 +111,7 @@ fn equals(
     let Value::Array(items) = argument else {
         return Err(TemplateFault::WrongShape { path: at });
     };
-    let mut left = items.iter();
-    let (Some(one), Some(other), None) = (left.next(), left.next(), left.next()) else {
+    let [one, other] = items.as_slice() else {
         return Err(TemplateFault::WrongShape { path: at });
     };
     equals_parts(alloc, params, one, other, &at)

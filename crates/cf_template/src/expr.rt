@@ -232,16 +232,9 @@ fn sub_items(
 ) -> Result<ExprNode, TemplateFault>
     ensures { GivesBy node_of (sub_of params.now (array (items_view items.now.items)) at.now) result }
 {
-    let mut left = items.iter();
-    let Some(text) = left.next() else {
+    let [text, map] = items.as_slice() else {
         return Err(wrong_shape(alloc, at)?);
     };
-    let Some(map) = left.next() else {
-        return Err(wrong_shape(alloc, at)?);
-    };
-    if left.next().is_some() {
-        return Err(wrong_shape(alloc, at)?);
-    }
     let parts = holed_item(alloc, text, at, 0)?;
     match map_item(alloc, params, map, at, 1) {
         Ok(map) => Ok(ExprNode::Sub { parts, map }),
@@ -316,16 +309,9 @@ fn join_items(
 ) -> Result<ExprNode, TemplateFault>
     ensures { GivesBy node_of (join_of params.now (array (items_view items.now.items)) at.now) result }
 {
-    let mut left = items.iter();
-    let Some(delimiter) = left.next() else {
+    let [delimiter, list] = items.as_slice() else {
         return Err(wrong_shape(alloc, at)?);
     };
-    let Some(list) = left.next() else {
-        return Err(wrong_shape(alloc, at)?);
-    };
-    if left.next().is_some() {
-        return Err(wrong_shape(alloc, at)?);
-    }
     let delimiter = text_item(alloc, delimiter, at, 0)?;
     let list = value_item(alloc, params, list, at, 1)?;
     Ok(ExprNode::Join { delimiter, list })
@@ -357,16 +343,9 @@ fn split_items(
 ) -> Result<ExprNode, TemplateFault>
     ensures { GivesBy node_of (split_of params.now (array (items_view items.now.items)) at.now) result }
 {
-    let mut left = items.iter();
-    let Some(delimiter) = left.next() else {
+    let [delimiter, text] = items.as_slice() else {
         return Err(wrong_shape(alloc, at)?);
     };
-    let Some(text) = left.next() else {
-        return Err(wrong_shape(alloc, at)?);
-    };
-    if left.next().is_some() {
-        return Err(wrong_shape(alloc, at)?);
-    }
     let delimiter = cut_at_item(alloc, delimiter, at, 0)?;
     let text = value_item(alloc, params, text, at, 1)?;
     Ok(ExprNode::Split { delimiter, text })
@@ -398,16 +377,9 @@ fn select_items(
 ) -> Result<ExprNode, TemplateFault>
     ensures { GivesBy node_of (select_of params.now (array (items_view items.now.items)) at.now) result }
 {
-    let mut left = items.iter();
-    let Some(index) = left.next() else {
+    let [index, list] = items.as_slice() else {
         return Err(wrong_shape(alloc, at)?);
     };
-    let Some(list) = left.next() else {
-        return Err(wrong_shape(alloc, at)?);
-    };
-    if left.next().is_some() {
-        return Err(wrong_shape(alloc, at)?);
-    }
     let index = value_item(alloc, params, index, at, 0)?;
     match value_item(alloc, params, list, at, 1) {
         Ok(list) => Ok(ExprNode::Select { index, list }),
@@ -445,19 +417,9 @@ fn choice_items(
 ) -> Result<ExprNode, TemplateFault>
     ensures { GivesBy node_of (choice_of params.now (array (items_view items.now.items)) at.now) result }
 {
-    let mut left = items.iter();
-    let Some(name) = left.next() else {
+    let [name, yes, no] = items.as_slice() else {
         return Err(wrong_shape(alloc, at)?);
     };
-    let Some(yes) = left.next() else {
-        return Err(wrong_shape(alloc, at)?);
-    };
-    let Some(no) = left.next() else {
-        return Err(wrong_shape(alloc, at)?);
-    };
-    if left.next().is_some() {
-        return Err(wrong_shape(alloc, at)?);
-    }
     let name = text_item(alloc, name, at, 0)?;
     let yes = value_item(alloc, params, yes, at, 1)?;
     match value_item(alloc, params, no, at, 2) {

@@ -43,19 +43,9 @@ fn find_items(
 ) -> Result<ExprNode, TemplateFault>
     ensures { GivesBy node_of (find_of params.now (array (items_view items.now.items)) at.now) result }
 {
-    let mut left = items.iter();
-    let Some(map) = left.next() else {
+    let [map, first, second] = items.as_slice() else {
         return Err(wrong_shape(alloc, at)?);
     };
-    let Some(first) = left.next() else {
-        return Err(wrong_shape(alloc, at)?);
-    };
-    let Some(second) = left.next() else {
-        return Err(wrong_shape(alloc, at)?);
-    };
-    if left.next().is_some() {
-        return Err(wrong_shape(alloc, at)?);
-    }
     let map = key_item(alloc, params, map, at, 0)?;
     let first = match key_item(alloc, params, first, at, 1) {
         Ok(first) => first,

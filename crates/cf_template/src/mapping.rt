@@ -53,12 +53,30 @@ fn rows(
     ensures { ReadsAs (rows_in (members_view members.now.entries) at.now []) result }
 {
     let mut found = ByName::new(alloc);
+    match put_rows(alloc, members, at, &mut found) {
+        Ok(()) => Ok(found),
+        Err(fault) => {
+            drop(found);
+            Err(fault)
+        }
+    }
+}
+
+/// Reads the members of a mapping into those found before.
+fn put_rows(
+    alloc: Global,
+    members: &Map<String, Value>,
+    at: &Txt,
+    found: &mut ByName<Dict>,
+) -> Result<(), TemplateFault>
+    ensures { ReadsAs (rows_in (members_view members.now.entries) at.now found.old) (mapped (λ _. found.new) result) }
+{
     for (name, member) in members.iter() {
         let place = member_at(alloc, at.as_str(), name.as_str())?;
         let key = Txt::from_str(alloc, name.as_str())?;
         found.insert(key, row(alloc, member, place)?)?;
     }
-    Ok(found)
+    Ok(())
 }
 
 fn row(alloc: Global, value: &Value, at: Txt) -> Result<Dict, TemplateFault>
@@ -76,12 +94,30 @@ fn cells(alloc: Global, members: &Map<String, Value>, at: &Txt) -> Result<Dict, 
     ensures { ReadsAs (values_in (members_view members.now.entries) at.now []) result }
 {
     let mut found = Dict::new(alloc);
+    match put_cells(alloc, members, at, &mut found) {
+        Ok(()) => Ok(found),
+        Err(fault) => {
+            drop(found);
+            Err(fault)
+        }
+    }
+}
+
+/// Reads the members of a row into those found before.
+fn put_cells(
+    alloc: Global,
+    members: &Map<String, Value>,
+    at: &Txt,
+    found: &mut Dict,
+) -> Result<(), TemplateFault>
+    ensures { ReadsAs (values_in (members_view members.now.entries) at.now found.old) (mapped (λ _. found.new) result) }
+{
     for (name, member) in members.iter() {
         let place = member_at(alloc, at.as_str(), name.as_str())?;
         let key = Txt::from_str(alloc, name.as_str())?;
         found.insert(key, cell(alloc, member, place)?)?;
     }
-    Ok(found)
+    Ok(())
 }
 
 /// A text, a whole number, a truth value, or a list of texts.

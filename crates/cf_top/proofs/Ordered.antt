@@ -25,9 +25,9 @@ use Rattle.cf_prepare.specs.declared.wish.PrepareFault.{PrepareFault}
 use Rattle.cf_prepare.specs.declared.wish.PrepareFault.TheVariants as fault
 use Rattle.cf_prepare.specs.declared.wish.Wish.TheVariants.{Deploy}
 use Rattle.cf_face.specs.declared.words.Choice.{Choice}
-use Rattle.cf_top.specs.Creating.{create_entry}
+use Rattle.cf_top.specs.Deployment.{create_entry}
 use Rattle.cf_top.specs.Deployment.{IsBegunBy, status_in_use, existing_status}
-use Rattle.cf_top.specs.Refusals.{TestsTemplate, exit_of_fault, refusal_in, deployed_source}
+use Rattle.cf_top.specs.Refusals.{TestsTemplate, exit_of_fault, deployed_source}
 
 -- where no stack bars the name, a creation may begin
 creates_by : (o : Option StackState) → option_and_then (λ st. status_in_use st.status) o ≡ None → creates_from (unwrap_or o no_stack).status ≡ true
@@ -57,7 +57,7 @@ module _ (schemas : List Schema) (x : World) (name : List ℕ) (choice : Choice)
   pub ordered :
       (o : Order) (begun : Entry) → o ≡ order.Begin begun → existing_status name x ≡ None
       → Tests (deploy_refusal schemas x name source) (IsDeployment schemas x name source) (Ok o) → OrderFollows schemas x (Deploy name source) o
-      → TestsTemplate (refusal_in (deploy_refusal schemas x name source)) (IsBegunBy schemas x name choice bytes) (Ok begun)
+      → TestsTemplate (option_map exit_of_fault (deploy_refusal schemas x name source)) (IsBegunBy schemas x name choice bytes) (Ok begun)
   ordered o begun e free t f =
       let written : Source = t.1.0 in
       let kind : kind_by (known_stack name x) written ≡ begin.Create written =
@@ -66,15 +66,15 @@ module _ (schemas : List Schema) (x : World) (name : List ℕ) (choice : Choice)
       begun_same begun (entry.Begin (x.operation + 1) name (kind_by (known_stack name x) written)) (sym e ∙ t.1.2)
       ∙ ap (λ (k : Begun). entry.Begin (x.operation + 1) name k) kind in
       let follows : OrderFollows schemas x (Deploy name source) (order.Begin begun) = subst (OrderFollows schemas x (Deploy name source)) e f in
-      (ap refusal_in t.0, (written, record { written = t.1.1; follows = subst (MayFollow schemas x []) same (follows tt []) }, same))
+      (ap (option_map exit_of_fault) t.0, (written, record { written = t.1.1; follows = subst (MayFollow schemas x []) same (follows tt []) }, same))
 
   -- what is refused is told
   pub refused_for :
       (f : PrepareFault) → Tests (deploy_refusal schemas x name source) (IsDeployment schemas x name source) (Err f)
-      → TestsTemplate (refusal_in (deploy_refusal schemas x name source)) (IsBegunBy schemas x name choice bytes) (Err (exit_of_fault f))
-  refused_for (fault.Plan flaw) t = ap refusal_in t
-  refused_for (fault.UnknownType path type) t = ap refusal_in t
-  refused_for (fault.Stack s) t = tt
+      → TestsTemplate (option_map exit_of_fault (deploy_refusal schemas x name source)) (IsBegunBy schemas x name choice bytes) (Err (exit_of_fault f))
+  refused_for (fault.Plan flaw) t = ap (option_map exit_of_fault) t
+  refused_for (fault.UnknownType path type) t = ap (option_map exit_of_fault) t
+  refused_for (fault.Stack s) t = ap (option_map exit_of_fault) t
   refused_for fault.NoMemory t = tt
 
 -- the templates of a source whose one text was read

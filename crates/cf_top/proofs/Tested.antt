@@ -20,4 +20,6 @@ told_or_short f exit.SinkFault r = absurd r
 told_or_short f (exit.NotAJournal offset) r = absurd r
 told_or_short f (exit.LaneMissing lane) r = absurd r
 told_or_short f (exit.LaneTwice lane) r = absurd r
+told_or_short f (exit.LaneAhead lane fence epoch) r = absurd r
+told_or_short f (exit.LaneFault lane) r = absurd r
 told_or_short f (exit.Full long need room) r = absurd r

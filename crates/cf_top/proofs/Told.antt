@@ -6,7 +6,7 @@ use Rattle.cf_entry.specs.declared.entry.Entry.{Entry}
 use Rattle.cf_entry.specs.declared.turn.Cause.{Cause}
 use Rattle.cf_effect.specs.Operation.{is_of}
 use Rattle.cf_plan.specs.Follow.{failed_in}
-use Rattle.cf_top.specs.Telling.{cause_in}
+use Rattle.cf_workers.specs.Turning.{cause_in}
 
 -- the first cause among the entries of an operation
 abbrev pub first_own : ℕ → List Entry → Option Cause

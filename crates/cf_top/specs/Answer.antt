@@ -18,13 +18,16 @@ use Rattle.cf_face.specs.declared.exit.Refusal.TheVariants.{Read, Plan}
 use Rattle.cf_face.specs.Exit.{exit_line}
 use Rattle.cf_face.specs.Words.{command_of, drives}
 use Rattle.cf_face.specs.Print.{PrintTells}
-use Rattle.cf_top.specs.Book.{Holds, world_left}
-use Rattle.cf_top.specs.Opening.{HasOpenCause}
+use Rattle.cf_disk.specs.declared.disk.Disk.{Ghosts as DiskGhosts}
+use Rattle.cf_handler.specs.declared.handler.Handler.{Ghosts as HandlerGhosts}
+use Rattle.cf_book.specs.Record.{world_left}
+use Rattle.cf_top.specs.Crash.{IsAsBefore}
+use Rattle.cf_top.specs.Opening.{HasOpenCause, Holds}
 use Rattle.cf_top.specs.Refusals.{IsMiss}
 use Rattle.cf_top.specs.Deployment.{LibraryUse, IsUnasked}
-use Rattle.cf_top.specs.Meeting.{Environment, KeepsAll}
+use Rattle.cf_top.specs.Outside.{NothingTouched, Outside, Printing}
 use Rattle.cf_top.specs.Telling.{described_text, described_exit}
-use Rattle.cf_top.specs.Alone.{Printing, IsAnswered, NothingTouched}
+use Rattle.cf_top.specs.Alone.{IsAnswered}
 
 -- the command drives no handlers
 abbrev pub is_asking : Option Command → Bool
@@ -77,10 +80,16 @@ AnswerTells o tells bytes bytes' faults faults' p words result =
     × Describes tells bytes bytes' faults faults' p stack result)
     ⊎ ((e : Exit) × AsksNothing words e × IsUnasked o × (bytes' ≡ bytes) × (faults' ≡ faults) × Prints p (exit_line e) e result))
 
+-- no lane is called, and a disk that tells its bytes keeps its record, in what a crash may leave too
+abbrev pub KeepsAll : {D H : Type 0} → DiskGhosts D → Outside D H → Type 0
+KeepsAll g m =
+    (m.handlers' ≡ m.handlers) × (IsTrue g.tells → IsAsBefore (g.seen m.disk) (g.seen m.disk') (g.may_leave m.disk) (g.may_leave m.disk'))
+
 -- the words are a command that drives no handlers, which is answered and calls no lane; or they are not, and are for one thread alone; or
 -- there was no memory to read them, and nothing was done
-abbrev pub RanAs : Environment → Printing → List (List ℕ) → Exit → Type 0
-RanAs m p words result =
-    ((is_asking (command_of words) ≡ true) × KeepsAll m × AnswerTells m.shelf m.tells m.bytes m.bytes' m.faults m.faults' p words result)
-    ⊎ (((is_asking (command_of words) ≡ false) × IsAnswered m p words result)
+abbrev pub RanAs : {D H : Type 0} → DiskGhosts D → HandlerGhosts H → Outside D H → Printing → List (List ℕ) → Exit → Type 0
+RanAs g h m p words result =
+    ((is_asking (command_of words) ≡ true) × KeepsAll g m
+    × AnswerTells m.library g.tells (g.seen m.disk) (g.seen m.disk') (g.count m.disk) (g.count m.disk') p words result)
+    ⊎ (((is_asking (command_of words) ≡ false) × IsAnswered g h m p words result)
     ⊎ (NothingTouched m × Prints p (exit_line exit.NoMemory) exit.NoMemory result))

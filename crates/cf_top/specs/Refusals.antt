@@ -1,5 +1,5 @@
 -- What stands in the library under a name, and why it may be refused before anything is made (this project's own).
-use Rattle.std.specs.Prelude.{◌≡◌, ℕ, List, [], ◌∷◌, Option, Some, None, Result, Ok, Err, if◌then◌else◌, ⊤}
+use Rattle.std.specs.Prelude.{◌≡◌, ℕ, List, [], ◌∷◌, Option, Some, None, Result, Ok, Err, if◌then◌else◌, option_map, ⊤}
 use Rattle.cf_tree.specs.Counts.{HasRisen}
 use Rattle.cf_tree.specs.declared.source.Source.{Source}
 use Rattle.cf_tree.specs.declared.template.Template.{Template}
@@ -11,11 +11,15 @@ use Rattle.cf_desired.specs.declared.flaw.Flaw.TheVariants.{TemplateMissing}
 use Rattle.cf_schema.specs.declared.described.Schema.{Schema}
 use Rattle.cf_effect.specs.World.{World}
 use Rattle.cf_prepare.specs.Refusals.{deploy_refusal}
+use Rattle.cf_prepare.specs.declared.wish.StackFault.{StackFault}
+use Rattle.cf_prepare.specs.declared.wish.StackFault.TheVariants as stack
 use Rattle.cf_prepare.specs.declared.wish.PrepareFault.{PrepareFault}
 use Rattle.cf_prepare.specs.declared.wish.PrepareFault.TheVariants as fault
 use Rattle.cf_face.specs.declared.words.Choice.{Choice}
 use Rattle.cf_face.specs.declared.exit.Exit.{Exit}
 use Rattle.cf_face.specs.declared.exit.Exit.TheVariants as exit
+use Rattle.cf_face.specs.declared.exit.StackFault.{StackFault as Told}
+use Rattle.cf_face.specs.declared.exit.StackFault.TheVariants as told
 use Rattle.cf_face.specs.declared.exit.Refusal.{Refusal}
 use Rattle.cf_face.specs.declared.exit.Refusal.TheVariants as refusal
 use Rattle.cf_top.specs.NotYet.{is_not_yet}
@@ -31,29 +35,35 @@ deployed_source stack choice bytes = record {
   number = 0;
 }
 
--- The exit of what preparing an operation is refused for. The creation of a stack that holds and exports nothing, from a template
--- that exports nothing, is refused for its template alone; another cause it has only in a journal that no run wrote.
+-- why preparing an operation refuses its stack, as it is told
+abbrev pub told_of_stack : StackFault → Told
+told_of_stack stack.NoStack = told.NoStack
+told_of_stack (stack.WrongStatus status) = told.WrongStatus status
+told_of_stack (stack.NoChangeSet number) = told.NoChangeSet number
+told_of_stack (stack.NotFailed path) = told.NotFailed path
+told_of_stack (stack.TypeChanged path) = told.TypeChanged path
+told_of_stack (stack.ExportTaken name) = told.ExportTaken name
+told_of_stack (stack.ExportInUse name) = told.ExportInUse name
+told_of_stack stack.NoChanges = told.NoChanges
+told_of_stack (stack.Outdated number) = told.Outdated number
+
+-- The exit of what preparing an operation is refused for.
 abbrev pub exit_of_fault : PrepareFault → Exit
 exit_of_fault (fault.Plan flaw) = exit.TemplateRefused (refusal.Plan flaw)
 exit_of_fault (fault.UnknownType path name) = exit.TemplateRefused (refusal.UnknownType path name)
-exit_of_fault (fault.Stack f) = exit.NoMemory
+exit_of_fault (fault.Stack f) = exit.StackRefused (told_of_stack f)
 exit_of_fault fault.NoMemory = exit.NoMemory
 
--- why the template is to blame for it
-abbrev pub refusal_in : Option PrepareFault → Option Refusal
-refusal_in (Some (fault.Plan flaw)) = Some (refusal.Plan flaw)
-refusal_in (Some (fault.UnknownType path name)) = Some (refusal.UnknownType path name)
-refusal_in _ = None
-
-abbrev pub template_refusal : List Schema → World → List ℕ → Choice → List ℕ → Reading Template → Option Refusal
-template_refusal schemas x stack choice bytes (Err fault) = Some (refusal.Read choice.template fault)
+abbrev pub template_refusal : List Schema → World → List ℕ → Choice → List ℕ → Reading Template → Option Exit
+template_refusal schemas x stack choice bytes (Err fault) = Some (exit.TemplateRefused (refusal.Read choice.template fault))
 template_refusal schemas x stack choice bytes (Ok t) =
-    if is_not_yet t then Some (refusal.NotYet choice.template) else refusal_in
+    if is_not_yet t then Some (exit.TemplateRefused (refusal.NotYet choice.template)) else option_map exit_of_fault
     (deploy_refusal schemas x stack (deployed_source stack choice bytes))
 
--- why a new stack of this name is refused, by what was found under the template's name (the order is this project's own)
-abbrev pub creation_refusal : List Schema → World → List ℕ → Choice → Option (List ℕ) → Option Refusal
-creation_refusal schemas x stack choice None = Some (refusal.Plan (TemplateMissing choice.template))
+-- Why a new stack of this name is refused, by what was found under the template's name (the order is this project's own). What the
+-- stack itself is refused for comes last: in a journal that runs wrote, a stack of which nothing is left holds and exports nothing.
+abbrev pub creation_refusal : List Schema → World → List ℕ → Choice → Option (List ℕ) → Option Exit
+creation_refusal schemas x stack choice None = Some (exit.TemplateRefused (refusal.Plan (TemplateMissing choice.template)))
 creation_refusal schemas x stack choice (Some bytes) = template_refusal schemas x stack choice bytes (template_of bytes)
 
 -- the exit of a refusal, where there was memory to tell it
@@ -67,12 +77,11 @@ abbrev pub UnreadAs : List ℕ → TemplateFault → Exit → Type 0
 UnreadAs name unread.NoMemory e = e ≡ exit.NoMemory
 UnreadAs name f e = RefusesTemplate (refusal.Read name f) e
 
--- what a test of a template answers: nothing where nothing is refused, else the refusal; want of memory may come in its place
-abbrev pub TestsTemplate : {A : Type 0} → Option Refusal → (A → Type 0) → Result A Exit → Type 0
+-- what a test of a template answers: nothing where nothing is refused, else the exit of the refusal; want of memory may come in its place
+abbrev pub TestsTemplate : {A : Type 0} → Option Exit → (A → Type 0) → Result A Exit → Type 0
 TestsTemplate o P (Ok a) = (o ≡ None) × P a
-TestsTemplate o P (Err (exit.TemplateRefused fault)) = o ≡ Some fault
 TestsTemplate o P (Err exit.NoMemory) = ⊤
-TestsTemplate o P (Err _) = ⊥
+TestsTemplate o P (Err e) = o ≡ Some e
 
 -- a fetch that found nothing counts as a miss
 abbrev pub IsMiss : Option (List ℕ) → ℕ → ℕ → Type 0

@@ -1,31 +1,15 @@
 -- What a command tells of a stack (this project's own).
-use Rattle.std.specs.Prelude.{ℕ, List, [], Option, Some, None, filter_map, Result, Ok, Err}
-use Rattle.std.specs.Option.{unwrap_or}
-use Rattle.cf_tree.specs.Lists.{first_in}
-use Rattle.cf_entry.specs.declared.entry.Entry.{Entry}
-use Rattle.cf_entry.specs.declared.entry.Entry.TheVariants as entry
+use Rattle.std.specs.Prelude.{ℕ, List, Option, Some, None, Result, Ok, Err}
 use Rattle.cf_entry.specs.declared.status.Status.{Status}
 use Rattle.cf_entry.specs.declared.status.Status.TheVariants as status
-use Rattle.cf_entry.specs.declared.turn.Cause.{Cause}
-use Rattle.cf_entry.specs.declared.turn.Cause.TheVariants as cause
-use Rattle.cf_entry.specs.declared.turn.Phase.TheVariants as phase
 use Rattle.cf_effect.specs.World.{StackState}
-use Rattle.cf_effect.specs.Operation.{own_of}
 use Rattle.cf_plan.specs.Follow.{failed_of}
 use Rattle.cf_face.specs.declared.exit.Exit.{Exit}
 use Rattle.cf_face.specs.declared.exit.Exit.TheVariants as exit
 use Rattle.cf_face.specs.declared.exit.StackFault.TheVariants.{NoStack}
 use Rattle.cf_face.specs.Exit.{exit_line}
 use Rattle.cf_face.specs.Report.{stack_report}
-
--- the cause for which an entry turns its operation back
-abbrev pub cause_in : Entry → Option Cause
-cause_in (entry.Phase number phase.Back cause) = cause
-cause_in _ = None
-
--- why the stack's last operation turned back; without a cause, which no rollback is, an empty text
-abbrev pub cause_of : StackState → Cause
-cause_of s = unwrap_or (first_in (filter_map cause_in (own_of s))) (cause.Plan [])
+use Rattle.cf_workers.specs.Turning.{cause_of}
 
 -- how a creation ended, by its stack's status
 abbrev pub exit_at : StackState → Status → Exit

@@ -2,12 +2,8 @@
 //! resources.
 #![tactic(auto)]
 
-mod apart;
-mod book;
-mod creating;
 mod deployment;
-mod drive;
-mod meeting;
+mod history;
 mod not_yet;
 mod opening;
 mod planning;
@@ -17,4 +13,5 @@ mod telling;
 mod top;
 mod validation;
 
+pub use history::{histories_agree, new_agrees};
 pub use top::{Ended, alone, answer, cfstack};

@@ -1,12 +1,12 @@
 //! The entry with which the creation of a stack begins, which is refused where its template can't be made.
-ghost use Rattle.std.specs.Prelude.{◌≡◌, [], ◌∷◌, IfOk, None, Ok, Some};
+ghost use Rattle.std.specs.Prelude.{◌≡◌, [], ◌∷◌, IfOk, None, Ok, Some, option_map};
 ghost use Rattle.cf_template.specs.Whole.{template_of};
 ghost use Rattle.cf_entry.specs.declared.entry.Entry.{Entry as Begun};
 ghost use Rattle.cf_prepare.specs.Refusals.{deploy_refusal};
 ghost use Rattle.cf_prepare.specs.declared.wish.Order.TheVariants.{Begin};
 ghost use Rattle.cf_prepare.specs.declared.wish.Wish.TheVariants.{Deploy};
 ghost use Rattle.cf_top.specs.Deployment.{IsBegunBy, existing_status};
-ghost use Rattle.cf_top.specs.Refusals.{TestsTemplate, refusal_in, creation_refusal, deployed_source};
+ghost use Rattle.cf_top.specs.Refusals.{TestsTemplate, exit_of_fault, creation_refusal, deployed_source};
 
 use crate::not_yet::is_not_yet;
 use crate::refusals::{not_yet, refused, unread};
@@ -26,7 +26,8 @@ use std::alloc::{AllocError, Global};
 /// # Errors
 ///
 /// `TemplateRefused` comes with the first of these: why the bytes are no template; `NotYet` where the template holds what
-/// is not made yet; the first flaw of its plan; the first resource, by path, whose type no lane of the opening has.
+/// is not made yet; the first flaw of its plan; the first resource, by path, whose type no lane of the opening has. Then
+/// comes `StackRefused`: a path that is held with another type, an export that another stack has, or that another imports.
 pub fn examine(
     alloc: Global,
     world: &World,
@@ -67,7 +68,7 @@ fn order_template(
 ) -> Result<Entry, Exit>
     requires free { existing_status stack.now world.now.world ≡ None }
     requires read { template_of bytes.items ≡ Ok template }
-    ensures { TestsTemplate (refusal_in (deploy_refusal schemas.now world.now.world stack.now (deployed_source stack.now choice.now bytes.items)))
+    ensures { TestsTemplate (option_map exit_of_fault (deploy_refusal schemas.now world.now.world stack.now (deployed_source stack.now choice.now bytes.items)))
         (IsBegunBy schemas.now world.now.world stack.now choice.now bytes.items) result }
 {
     let Ok(templates) = templates_under(alloc, &choice.template, template) else {

@@ -2,11 +2,11 @@
 ghost use Rattle.std.specs.Prelude.{◌≡◌};
 ghost use Rattle.cf_desired.specs.declared.flaw.Flaw.TheVariants.{TemplateMissing};
 ghost use Rattle.cf_face.specs.declared.exit.Refusal.TheVariants.{Read, NotYet, Plan};
-ghost use Rattle.cf_top.specs.Refusals.{RefusesTemplate, UnreadAs, exit_of_fault};
+ghost use Rattle.cf_top.specs.Refusals.{RefusesTemplate, UnreadAs, exit_of_fault, told_of_stack};
 
 use cf_desired::Flaw;
-use cf_face::{Exit, Refusal};
-use cf_prepare::PrepareFault;
+use cf_face::{Exit, Refusal, StackFault as Told};
+use cf_prepare::{PrepareFault, StackFault};
 use cf_template::TemplateFault;
 use cf_tree::{TryClone, Txt};
 use std::alloc::Global;
@@ -50,8 +50,24 @@ pub fn not_yet(alloc: Global, name: &Txt) -> Exit
     }
 }
 
-/// The exit of what preparing the creation of a stack is refused for. A stack that holds and exports nothing is not, but for its
-/// template.
+/// What preparing an operation refuses a stack for, as it is told.
+fn told(fault: StackFault) -> Told
+    ensures { result ≡ told_of_stack fault }
+{
+    match fault {
+        StackFault::NoStack => Told::NoStack,
+        StackFault::WrongStatus { status } => Told::WrongStatus { status },
+        StackFault::NoChangeSet { number } => Told::NoChangeSet { number },
+        StackFault::NotFailed { path } => Told::NotFailed { path },
+        StackFault::TypeChanged { path } => Told::TypeChanged { path },
+        StackFault::ExportTaken { name } => Told::ExportTaken { name },
+        StackFault::ExportInUse { name } => Told::ExportInUse { name },
+        StackFault::NoChanges => Told::NoChanges,
+        StackFault::Outdated { number } => Told::Outdated { number },
+    }
+}
+
+/// The exit of what preparing an operation is refused for.
 pub fn refused(fault: PrepareFault) -> Exit
     ensures { result ≡ exit_of_fault fault }
 {
@@ -62,9 +78,7 @@ pub fn refused(fault: PrepareFault) -> Exit
         PrepareFault::UnknownType { path, name } => Exit::TemplateRefused {
             fault: Refusal::UnknownType { path, name },
         },
-        other => {
-            drop(other);
-            Exit::NoMemory
-        }
+        PrepareFault::Stack { fault } => Exit::StackRefused { fault: told(fault) },
+        PrepareFault::NoMemory => Exit::NoMemory,
     }
 }

@@ -8,13 +8,13 @@ ghost use Rattle.cf_effect.specs.Operation.{is_of};
 ghost use Rattle.cf_plan.specs.Follow.{failed_in, failed_of};
 ghost use Rattle.cf_face.specs.Print.{PrintTells};
 ghost use Rattle.cf_face.specs.Report.{stack_report};
-ghost use Rattle.cf_top.specs.Telling.{cause_in, cause_of, described_exit, described_text, exit_for};
+ghost use Rattle.cf_top.specs.Telling.{described_exit, described_text, exit_for};
+ghost use Rattle.cf_workers.specs.Turning.{cause_in, cause_of};
 
-use crate::book::Book;
 use cf_entry::{Cause, Entry, Phase, Status};
 use cf_face::{Exit, StackFault, print_exit, put, report};
 use cf_io::Sink;
-use cf_stacks::{HeardEntry, StackState};
+use cf_stacks::{HeardEntry, StackState, World};
 use cf_tree::{Names, NoMemory, TryClone, Txt};
 use std::alloc::{AllocError, Global};
 
@@ -234,25 +234,25 @@ fn tell_ended<K: Sink>(alloc: Global, out: &mut K, name: &Txt, stack: &StackStat
 }
 
 /// Prints the report on the stack of a name whose creation has ended, and answers how it ended.
-pub fn tell_over<K: Sink>(alloc: Global, out: &mut K, name: &Txt, book: &Book) -> Exit
-    requires { (st : Stack) × (stack_at name.now book.now.world.world ≡ Some st) }
+pub fn tell_over<K: Sink>(alloc: Global, out: &mut K, name: &Txt, world: &World) -> Exit
+    requires { (st : Stack) × (stack_at name.now world.now.world ≡ Some st) }
     ensures faults { K.count out.old ≤ K.count out.new }
-    ensures tells { (st : Stack) × (stack_at name.now book.now.world.world ≡ Some st)
+    ensures tells { (st : Stack) × (stack_at name.now world.now.world ≡ Some st)
         × PrintTells (K.held out.old) (K.held out.new) (K.count out.old) (K.count out.new) (stack_report name.now st (exit_for st)) (exit_for st) result }
 {
-    match book.world.stack(name.as_str()) {
+    match world.stack(name.as_str()) {
         Some(stack) => tell_ended(alloc, out, name, stack),
         None => unreachable!(),
     }
 }
 
 /// Prints the report on the stack of a name, or that there is none.
-pub fn describe<K: Sink>(alloc: Global, out: &mut K, name: &Txt, book: &Book) -> Exit
+pub fn describe<K: Sink>(alloc: Global, out: &mut K, name: &Txt, world: &World) -> Exit
     ensures faults { K.count out.old ≤ K.count out.new }
     ensures tells { PrintTells (K.held out.old) (K.held out.new) (K.count out.old) (K.count out.new)
-        (described_text name.now (stack_at name.now book.now.world.world)) (described_exit (stack_at name.now book.now.world.world)) result }
+        (described_text name.now (stack_at name.now world.now.world)) (described_exit (stack_at name.now world.now.world)) result }
 {
-    match book.world.stack(name.as_str()) {
+    match world.stack(name.as_str()) {
         Some(stack) => tell_stack(alloc, out, name, stack, Exit::Done),
         None => print_exit(
             alloc,

@@ -68,7 +68,9 @@ fn answer_text(alloc: Global, answer: &Answer) -> Result<String, AllocError> {
             format!(in alloc; "{} {}", physical.as_str(), attrs.len())
         }
         Answer::Failed { code } => String::from_str(alloc, code.name()),
-        Answer::Fault | Answer::NoMemory => String::from_str(alloc, "other"),
+        Answer::Fault | Answer::Stale { fence: _ } | Answer::NoMemory => {
+            String::from_str(alloc, "other")
+        }
     }
 }
 

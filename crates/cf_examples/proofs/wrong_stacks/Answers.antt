@@ -21,3 +21,6 @@ returns-clause-not_back c = told.not_back
 
 pub returns-clause-not_booked : goal.returns-clause-not_booked
 returns-clause-not_booked c = told.not_booked
+
+pub returns-clause-not_open : goal.returns-clause-not_open
+returns-clause-not_open c = told.not_open

@@ -1,7 +1,7 @@
-use Rattle.std.proofs.Common.{Ok, Err, subst, sym}
+use Rattle.std.proofs.Common.{Ok, Err, option_map, subst, sym}
 use Rattle.cf_prepare.specs.Prepare.{HasTemplates, OrderFollows, PreparesAs}
 use Rattle.cf_top.specs.Deployment.{IsBegunBy}
-use Rattle.cf_top.specs.Refusals.{TestsTemplate, refusal_in, deployed_source}
+use Rattle.cf_top.specs.Refusals.{TestsTemplate, exit_of_fault, deployed_source}
 use Rattle.cf_prepare.specs.Refusals.{deploy_refusal}
 use Rattle.cf_top.proofs.Ordered.{is_begin, one_template, ordered, refused_for}
 use Rattle.cf_top.proofs.planning.order_template.Goals as goal
@@ -26,7 +26,7 @@ returns-in-Ok-prepared c =
 
 pub returns-in-Err-prepared : goal.returns-in-Err-prepared
 returns-in-Err-prepared c =
-    subst (λ e. TestsTemplate (refusal_in (deploy_refusal c.args.schemas.now c.args.world.now.world c.args.stack.now (deployed_source c.args.stack.now c.args.choice.now c.args.bytes.items)))
+    subst (λ e. TestsTemplate (option_map exit_of_fault (deploy_refusal c.args.schemas.now c.args.world.now.world c.args.stack.now (deployed_source c.args.stack.now c.args.choice.now c.args.bytes.items)))
     (IsBegunBy c.args.schemas.now c.args.world.now.world c.args.stack.now c.args.choice.now c.args.bytes.items) (Err e)) (sym c.refused.ensures)
     (refused_for c.args.schemas.now c.args.world.now.world c.args.stack.now c.args.choice.now c.args.bytes.items c.in-Err-prepared.fault
     (subst (λ w. PreparesAs c.args.schemas.now c.args.world.now.world w (Err c.in-Err-prepared.fault)) c.in-Ok-wish_of.ensures c.in-Err-prepared.ensures.exact))

@@ -30,10 +30,10 @@ returns-in-Ok-clause-answered g c =
       (refl, refl),
       c.in-Ok.ensures.kept,
       inl (
-        c.in-Ok.book.entries.items,
-        c.in-Ok.ensures.found,
-        c.in-Ok.ensures.open.holds,
-        subst (λ x. DescribesIn c.in-Ok-Some-Describe.stack (record { held = g.K.Sink.held c.args.out.now; held' = g.K.Sink.held c.describe-told.new.out; faults = g.K.Sink.count c.args.out.now; faults' = g.K.Sink.count c.describe-told.new.out }) (stack_at c.in-Ok-Some-Describe.stack x) c.describe-told.result) c.in-Ok.ensures.open.world c.describe-told.ensures.tells,
+        c.in-Ok.ensures.found.0,
+        c.in-Ok.ensures.found.1,
+        (λ told. (c.in-Ok.ensures.kept told).same ∙ c.in-Ok.ensures.found.1 told),
+        subst (λ x. DescribesIn c.in-Ok-Some-Describe.stack (record { held = g.K.Sink.held c.args.out.now; held' = g.K.Sink.held c.describe-told.new.out; faults = g.K.Sink.count c.args.out.now; faults' = g.K.Sink.count c.describe-told.new.out }) (stack_at c.in-Ok-Some-Describe.stack x) c.describe-told.result) c.in-Ok.ensures.found.2 c.describe-told.ensures.tells,
       ),
     ))
 
@@ -43,8 +43,8 @@ returns-in-Ok-Some-Describe-clause-answered g c =
       c.in-Ok-Some-Describe.stack,
       sym c.in-Ok-Some-Describe.ensures ∙ c.in-Ok-Some-Describe.field-0-is ∙ ap (λ (d : Command). Some d) c.in-Ok-Some-Describe.field-0-0-is,
       (refl, refl),
-      c.in-Err-open.ensures.kept,
-      inr (c.in-Err-open.exit, c.in-Err-open.ensures.cause, c.print_exit-in-Err-open.ensures.tells),
+      c.in-Err-world_on.ensures.kept,
+      inr (c.in-Err-world_on.exit, c.in-Err-world_on.ensures.cause, c.print_exit-in-Err-world_on.ensures.tells),
     ))
 
 pub returns-in-Ok-Some-Validate-clause-any_moment : goal.returns-in-Ok-Some-Validate-clause-any_moment
@@ -77,8 +77,8 @@ returns-clause-leaves g c told = λ file left. inl left
 
 pub returns-in-Ok-clause-leaves : goal.returns-in-Ok-clause-leaves
 returns-in-Ok-clause-leaves g c told =
-    let all = c.open.ensures.any_moment told in λ file left. all.each file (g.met.D.Disk.counts_now c.open.new.disk (g.D.Disk.moment c.args.disk.now) file told all.later left)
+    let all = c.world_on.ensures.any_moment told in λ file left. all.each file (g.met.D.Disk.counts_now c.world_on.new.disk (g.D.Disk.moment c.args.disk.now) file told all.later left)
 
 pub returns-in-Ok-Some-Describe-clause-leaves : goal.returns-in-Ok-Some-Describe-clause-leaves
 returns-in-Ok-Some-Describe-clause-leaves g c told =
-    let all = c.open.ensures.any_moment told in λ file left. all.each file (g.met.D.Disk.counts_now c.open.new.disk (g.D.Disk.moment c.args.disk.now) file told all.later left)
+    let all = c.world_on.ensures.any_moment told in λ file left. all.each file (g.met.D.Disk.counts_now c.world_on.new.disk (g.D.Disk.moment c.args.disk.now) file told all.later left)

@@ -1,5 +1,19 @@
-use Rattle.cf_fake.proofs.Keeps.{table_moves}
+use Rattle.std.proofs.Common.{Some, refl, subst, sym}
+use Rattle.cf_tree.specs.declared.request.Answer.{Answer}
+use Rattle.cf_handler.specs.Tells.{CallTells}
+use Rattle.cf_fake.specs.Sound.{AnswersInLane}
+use Rattle.cf_fake.specs.Late.{lane_at}
 use Rattle.cf_fake.proofs.memory.MemoryHandler.answer_call.Goals as goal
+use Rattle.cf_fake.proofs.memory.MemoryHandler.answer_call.Goals.{in-Ok, in-Err}
 
 pub returns-clause-moves : goal.returns-clause-moves
-returns-clause-moves c = table_moves c.break_at-planned.result c.args.self.now.schema c.args.self.now.name c.args.self.now.settled.items c.answer_planned-answer.new.self.settled.items c.args.token c.args.request.now c.answer_planned-answer.result c.args.self.now.named c.ranges.token.fits c.args.self.now.kept c.break_at-planned.ensures.fits c.answer_planned-answer.ensures.table
+returns-clause-moves c =
+    let before = lane_at c.args.self.now.store.settled.items c.args.self.now.waiting.items c.args.self.now.fence in
+    let after = lane_at c.answer_planned.new.self.store.settled.items c.answer_planned.new.self.waiting.items c.answer_planned.new.self.fence in
+    elim c.match-answer_planned.branch [
+      | in-Ok w ↦
+          subst (λ (x : Answer). AnswersInLane c.args.self.now.store.name x × CallTells c.args.self.now.store.name (Some before) (Some after) c.args.epoch c.args.token c.args.request.now x) (sym w.answer-is) w.in-Ok.ensures.moves
+      | in-Err w ↦
+          subst (λ (x : Answer). AnswersInLane c.args.self.now.store.name x × CallTells c.args.self.now.store.name (Some before) (Some after) c.args.epoch c.args.token c.args.request.now x) (sym w.answer-is)
+          (tt, (after, w.in-Err.ensures.moves, after, refl, refl))
+    ]

@@ -1,0 +1,17 @@
+pub mod State
+pub mod Record
+pub mod Steady
+pub mod Lives
+pub mod Events
+pub mod Calls
+pub mod Inside
+pub mod Parking
+pub mod Settling
+pub mod Beginning
+pub mod Ended
+pub mod Granting
+pub mod Lending
+pub mod Fences
+pub mod Opening
+pub mod Entering
+pub mod Finding

@@ -1,7 +1,0 @@
-use Rattle.std.proofs.Common.{◌≡◌, drop, map}
-use Rattle.cf_stacks.specs.Standing.{stack_in}
-use Rattle.cf_top.specs.Creating.{are_apart}
-use Rattle.cf_top.proofs.apart.are_apart.Given as goal
-
-abbrev pub invariant-loop-at : goal.invariant-loop-at
-invariant-loop-at l = are_apart l.last (map stack_in l.stacks) ≡ are_apart l.last (map stack_in (drop l.at l.stacks))

@@ -1,0 +1,5 @@
+pub mod Growing
+pub mod Driving
+pub mod Leading
+pub mod Turning
+pub mod Agreement
