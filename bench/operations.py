@@ -1,13 +1,17 @@
 #!/usr/bin/env python3
-"""Measures what operations cost, whole process, reading and report included: a chain, a fan and a binary tree of 100, 250
-and 500 resources, created, and created and rolled back.
+"""Measures what operations cost: a chain, a fan and a binary tree of 100, 250 and 500 resources, created, and created and
+rolled back, whole process, reading and report included; and all updated, and all updated and rolled back.
 
-usage: bench/operations.py PROGRAM [MOST [MOST_BACK]]
+usage: bench/operations.py PROGRAM [SCENARIOS]
 
-PROGRAM is the built program, MOST the greatest number of resources that are created, MOST_BACK the greatest number that
-are created and rolled back (500 each if left out; smaller numbers are left out from the top). The table has for each
-template its bytes, the instructions that the process executes, its shortest time of three runs and its peak memory; then
-for each shape how many times as many instructions the greatest takes as half of it.
+PROGRAM is the built program. The table has for each template its bytes, the instructions that the process executes, its
+shortest time of three runs and its peak memory; then for each shape how many times as many instructions the greatest takes
+as half of it.
+
+SCENARIOS is the built program of `cf_scenarios`, which plays several commands over one journal in memory; updates are
+measured by it, and left out without it. What an update costs is what a scenario of a creation and an update executes more
+than one of that creation alone; so of a rollback. Beside it stands how many times that is of what the same creation, with its
+rollback, costs there (against a scenario that only reads the templates).
 
 Instructions are counted by valgrind: the total that `valgrind --tool=callgrind` says it collected, which is every
 instruction that the process executes in user mode, from its first to its last. Other work on the machine doesn't change
@@ -16,8 +20,8 @@ Peak memory below that of this script's own process, some 11 MB, is not seen.
 
 Every resource is a record whose value refers to the one that it needs. A creation is rolled back for an output whose index
 lies outside its list once all is made. Disk and lanes are in memory. The templates stand in a folder that is removed
-afterwards. Updates, their rollbacks, deletions and change sets are not measured, since no command of the program does
-them yet.
+afterwards. An update gives every resource another value; it is rolled back because the lane refuses the last call of it.
+Deletions and change sets are not measured, since no command of the program does them yet.
 """
 import json
 import os
@@ -47,15 +51,20 @@ ENDS = {
 }
 
 
-def record(number, need):
-    """A record, which refers to the one that it needs."""
-    value = {"Ref": f"R{need(number):04}"} if number > 1 else "first"
+def record(number, need, word):
+    """A record whose value is a word and, but of the first, the record that it needs; without a word that record alone."""
+    if number == 1:
+        value = word or "first"
+    elif word:
+        value = {"Fn::Sub": f"{word}${{R{need(number):04}}}"}
+    else:
+        value = {"Ref": f"R{need(number):04}"}
     return {"Type": "Local::Records::Record", "Properties": {"Key": f"k{number}", "Value": value}}
 
 
-def template(count, need, back):
+def template(count, need, back, word=""):
     """A template of so many resources, as bytes of compact JSON."""
-    text = {"Resources": {f"R{number:04}": record(number, need) for number in range(1, count + 1)}}
+    text = {"Resources": {f"R{number:04}": record(number, need, word) for number in range(1, count + 1)}}
     if back:
         text["Outputs"] = {"O": {"Value": {"Fn::Select": [1, [{"Ref": "R0001"}]]}}}
     return json.dumps(text, separators=(",", ":")).encode()
@@ -114,22 +123,60 @@ def measure(program, home, counts, back):
             print(f"{name:12}{shape:6}{most} to {most // 2}: {ratio:.2f} times as many instructions", flush=True)
 
 
-def counts_to(most):
-    """The numbers of resources up to the greatest."""
-    return [count for count in COUNTS if count <= most]
+def played(program, home, lines):
+    """The instructions that a scenario executes; each of its rows has to be right."""
+    text = Path(home, "scenario")
+    text.write_text("\n".join(lines) + "\n")
+    counted = ["valgrind", "--tool=callgrind", f"--callgrind-out-file={home}/counted", program]
+    with text.open() as rows:
+        ended = subprocess.run(counted, stdin=rows, stdout=subprocess.PIPE, stderr=subprocess.PIPE, check=False)
+    if not ended.stdout.decode().endswith(" rows, 0 answered otherwise\n"):
+        sys.exit(ended.stdout.decode())
+    return int(re.search(r"Collected : (\d+)", ended.stderr.decode()).group(1))
+
+
+# Templates of the scenarios: a name, the word of each value, and whether an output is at fault once all is made.
+TEMPLATES = (("first", "a", False), ("second", "b", False), ("bad", "a", True))
+
+REFUSAL = "ServiceLimitExceeded"
+
+
+def scenario(count, need, commands, refused=None):
+    """A scenario of commands, of each its template and how it ends; the lane refuses the call of this number."""
+    lines = [f"template {name} {template(count, need, back, word).decode()}" for name, word, back in TEMPLATES]
+    lines += ["== operations", "room 60000000", f"lane r1 records {refused} refuse {REFUSAL}" if refused else "lane r1 records"]
+    for name, end in commands:
+        lines += [f"> deploy s {name}", f"= {end}"]
+    return lines
+
+
+def measure_updates(program, home, count):
+    """Prints what an update of so many resources and its rollback cost beside a creation and its rollback."""
+    for shape, need in SHAPES.items():
+        first, second, bad = ("first", ENDS[False]), ("second", ENDS[False]), ("bad", ENDS[True])
+        refused = ("second", f'exit 4 RolledBack Handler "R{count:04}" {REFUSAL}')
+        none = played(program, home, scenario(count, need, []))
+        created = played(program, home, scenario(count, need, [first]))
+        undone = played(program, home, scenario(count, need, [bad])) - none
+        updated = played(program, home, scenario(count, need, [first, second])) - created
+        restored = played(program, home, scenario(count, need, [first, refused], 2 * count)) - created
+        for name, taken, beside in (("updated", updated, created - none), ("restored", restored, undone)):
+            print(f"{name:12}{shape:6}{count:>10}{taken / 1e6:>14.1f} million, {taken / beside:.2f} times {beside / 1e6:.1f}", flush=True)
 
 
 def main():
-    if len(sys.argv) not in (2, 3, 4):
+    if len(sys.argv) not in (2, 3):
         sys.exit(__doc__)
     program = os.path.abspath(sys.argv[1])
-    most, most_back = [int(word) for word in (*sys.argv[2:], *("500", "500")[len(sys.argv) - 2 :])]
     with tempfile.TemporaryDirectory() as home:
         Path(home, "templates").mkdir()
         print(f"load at the start: {os.getloadavg()[0]:.1f}, processors: {os.cpu_count()}")
         print(f"{'':12}{'shape':6}{'resources':>10}{'bytes':>10}{'million instr':>14}{'least s':>10}{'peak MB':>10}", flush=True)
-        measure(program, home, counts_to(most), False)
-        measure(program, home, counts_to(most_back), True)
+        for back in (False, True):
+            measure(program, home, COUNTS, back)
+        if len(sys.argv) == 3 and shutil.which("valgrind"):
+            for count in COUNTS[1:]:
+                measure_updates(os.path.abspath(sys.argv[2]), home, count)
 
 
 if __name__ == "__main__":

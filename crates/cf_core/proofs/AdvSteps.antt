@@ -496,7 +496,7 @@ pub none_begins : (k : Begun) (z : Status) → goes_forward z ≡ true → begin
 none_begins k = grind (arith, only_forward)
 
 -- a later phase, and an end, leave another status, whatever the operation was in
-turned_back : (z : Status) (p : Phase) → goes_forward (turned z p) ≡ false
+pub turned_back : (z : Status) (p : Phase) → goes_forward (turned z p) ≡ false
 turned_back z p = grind arith
 
 -- what is written as the phase goes on: a call that may go out, an answer, an opening, or what is of another stack

@@ -1,6 +1,6 @@
 -- Whatever happens in the life of an engine, each stack stays on its course, and keeps what its status promises.
 use Rattle.std.proofs.Common.{arith, ◌≡◌, ◌∙◌, ℕ, ◌+◌, List, [], true, false, Option, Some, None, refl, sym, ap, subst, true≢false, ◌∷◌, ◌++◌, ◌||◌, ◌≢◌, Bool, filter}
-use Rattle.cf_core.proofs.Words.{Act, Appends, AreDescribed, AreKept, AreSchemas, AreSteady, BackClean, BecomesBy, Begin, Begun, Cause, ChangeSet, Clean, DescribedIsKept, End, EndsAs, Entry, Event, Fits, Forward, StaysForward, Grant, HasBegunForward, HasNext, Held, HoldsWhole, In, IsAdvancing, IsBlamed, IsCleared, IsGivenUpIn, IsHeldAtRest, IsLife, IsMove, IsNoBegin, IsOnCourse, IsOnce, IsSteady, IsTo, IsTold, IsUnmaking, IsWritten, Lane, LeavesApart, Life, MayBegin, Happens, MayTurn, Opened, Pending, Phase, Raise, Repeat, Request, Schema, Settle, Source, StackState, StartIsDescribed, Status, World, appended, begins_from, begun, bytes_eq, continues_from, creates_from, deletes_from, deletes_nothing, effect_at, empty_world, ends, failed_of, fold_of, found, goes_forward, granted, is_cleared, is_failed_status, is_going, is_in_progress, is_opening, known_stack, life_after, no_stack, of_rollback, of_update, other as another, reviewed as review, stack_at, stack_for, stack_of_operation, stage_of, stays as goes_on, tokens_out, turned, turns, updates_from, world_after, world_of}
+use Rattle.cf_core.proofs.Words.{Act, Appends, AreDescribed, AreKept, AreSchemas, AreSteady, BackClean, BecomesBy, Begin, Begun, Cause, ChangeSet, Clean, DescribedIsKept, End, EndsAs, Entry, Event, Fits, StaysForward, Grant, HasBegunForward, HasNext, Held, HoldsWhole, In, IsAdvancing, IsBlamed, IsCleared, IsGivenUpIn, IsHeldAtRest, IsLife, IsMove, IsNoBegin, IsOnCourse, IsOnce, IsSteady, IsTo, IsTold, IsUnmaking, IsWritten, Lane, LeavesApart, Life, MayBegin, Happens, Opened, Pending, Phase, Raise, Repeat, Request, Schema, Settle, Source, StackState, StartIsDescribed, Status, World, appended, begins_from, begun, bytes_eq, continues_from, creates_from, deletes_from, deletes_nothing, effect_at, empty_world, ends, failed_of, fold_of, found, goes_forward, granted, is_cleared, is_failed_status, is_going, is_in_progress, is_opening, known_stack, life_after, no_stack, of_rollback, of_update, other as another, stack_at, stack_for, stack_of_operation, stage_of, stays as goes_on, tokens_out, turned, turns, updates_from, world_after, world_of}
 use Rattle.cf_core.proofs.Lemmas.{all_in, empty_list, empty_parts, found_one, found_stands, in_kept, none_false, or_left, or_right}
 use Rattle.cf_core.proofs.WholeKept.{creation_is_whole, nothing_held, update_is_whole, cleanup_keeps_whole, rest_keeps_whole, update_ends_at_rest, course_keeps_promise, held_is_found}
 use Rattle.cf_core.proofs.BackLaws.{back_holds, cleanup_stays, failed_stay, rest_stays, updates_back, updates_turn}
@@ -9,11 +9,12 @@ use Rattle.cf_core.proofs.Statuses.{begun_status, ended_status, turned_status, b
 use Rattle.cf_core.proofs.MoreStacks.{completes_begun_stays, leaves_once_stays, lists_given_up_stays}
 use Rattle.cf_core.proofs.Cleanups.{back_tidying_begins, nothing_deleted, tidying_begins, cleaning_of, of_cleaning, of_cleaning_back, tidying_stays, tidying_ends}
 use Rattle.cf_core.proofs.MoreLives.{leases_once_stays, settles_once_stays, start_is_once}
+use Rattle.cf_core.proofs.{FewCalls.few_stay, FewCalls.none_few, MovesStatus.status_moves}
 use Rattle.cf_core.proofs.{InFlight.leases_stay_open, NamedLanes.advancing, Tries.tries_stay_left}
 use Rattle.cf_core.proofs.HidCalls.{advancing_stays, none_is_ordered, order_stays}
 use Rattle.cf_core.proofs.Moving.{numbered_so, written_is_to, written_moves}
 use Rattle.cf_core.proofs.Stacks.{is_working, once_here, stands_on}
-use Rattle.cf_core.specs.StatusMoves.{StatusMoves, WrittenMovesStatus, stays, reviewed, creates, updates, deletes, continues, creation_back, created, unmade, unmaking_failed, cleans, updated, update_back, back_cleans, rolled_back, back_failed, deleted, deletion_failed}
+use Rattle.cf_core.specs.StatusMoves.{StatusMoves, stays, reviewed, creates, updates, deletes, continues, creation_back, created, unmade, unmaking_failed, cleans, updated, update_back, back_cleans, rolled_back, back_failed, deleted, deletion_failed}
 use Rattle.cf_core.specs.Theorem.{EventHolds, EventsHold, HoldsAlways, HoldsKeepsPromises, LivesKeepPromises, OperationsGoOn, StartHolds}
 use Rattle.cf_core.specs.Unmade.{ClearedStays, EndsCleared, UnmakingBegins, UnmakingStays, leaves_nothing}
 use Rattle.cf_core.specs.Returning.{IsAfterBack, IsAfterBackClean, IsAfterFailed, IsAfterReturn}
@@ -70,59 +71,6 @@ described_kept schemas life ev may s d = entries_after life (λ es. AreDescribed
 
 pub start_described : StartIsDescribed
 start_described schemas life start l i = elim (subst (λ es. In l (fold_of empty_world es).lanes) start.no_entries i) [ ]
-
--- How the status of a stack moves.
-
--- an operation begins
-begun_moves : (k : Begun) (a : Status) → IsTrue (begins_from k a) → StatusMoves a (begun k)
-begun_moves (Begun.Create source) a from = creates from
-begun_moves (Begun.Update source) a from = updates from
-begun_moves (Begun.Delete paths) a from = deletes from
-begun_moves (Begun.Continue paths) Status.UpdateRollbackFailed from = continues
-begun_moves (Begun.Continue paths) a from = absurd (true≢false (sym from))
-
--- a change set is kept
-review_moves : (a : Status) → StatusMoves a (review a)
-review_moves Status.DeleteComplete = reviewed
-review_moves a = stays
-
-module _ (schemas : List Schema) (name : List ℕ) (x : World) (s : StackState) where
-  -- a later phase begins
-  forward_moves : (a : Status) → stage_of a ≡ Some Forward → StatusMoves a (turned a Phase.Back)
-  forward_moves Status.CreateInProgress e = creation_back
-  forward_moves Status.UpdateInProgress e = update_back
-  forward_moves a e = let no : ⊥ = cc in absurd no
-
-  phase_moves : (p : Phase) (why : Option Cause) → MayTurn schemas name x s p why → StatusMoves s.status (turned s.status p)
-  phase_moves Phase.Clean None may = subst (λ (a : Status). StatusMoves a (turned a Phase.Clean)) (sym may.0) cleans
-  phase_moves Phase.Clean (Some c) may = absurd may
-  phase_moves Phase.Back (Some c) may = forward_moves s.status may.0
-  phase_moves Phase.Back None may = absurd may
-  phase_moves Phase.BackClean None may = subst (λ (a : Status). StatusMoves a (turned a Phase.BackClean)) (sym may.0) back_cleans
-  phase_moves Phase.BackClean (Some c) may = absurd may
-
-  -- an operation ends
-  end_moves : (a b : Status) → EndsAs schemas name x s a b → StatusMoves a b
-  end_moves Status.CreateInProgress Status.CreateComplete e = created
-  end_moves Status.RollbackInProgress Status.RollbackComplete e = unmade
-  end_moves Status.RollbackInProgress Status.RollbackFailed e = unmaking_failed
-  end_moves Status.DeleteInProgress Status.DeleteComplete e = deleted
-  end_moves Status.DeleteInProgress Status.DeleteFailed e = deletion_failed
-  end_moves Status.UpdateCompleteCleanupInProgress Status.UpdateComplete e = updated
-  end_moves Status.UpdateRollbackCompleteCleanupInProgress Status.UpdateRollbackComplete e = rolled_back
-  end_moves Status.UpdateRollbackInProgress Status.UpdateRollbackFailed e = back_failed
-  end_moves a b e = absurd e
-
-  moves : {out : List ℕ} {e : Entry} {t : StackState} → IsMove schemas x out name s e t → StatusMoves s.status t.status
-  moves (goes_on same) = subst (StatusMoves s.status) (sym same) stays
-  moves (turns number p why q may) = subst (StatusMoves s.status) (sym (turned_status (x.place + 1) number p s why)) (phase_moves p why may)
-  moves (ends number state failed stage q at may) = subst (StatusMoves s.status) (sym (ended_status (x.place + 1) number state failed s)) (end_moves s.status state may.2)
-  moves (begins k from by) = subst (StatusMoves s.status) (sym (begun_status (x.place + 1) name (x.operation + 1) k s)) (begun_moves k s.status from)
-  moves (is_reviewed number source rows outputs from) = review_moves s.status
-  moves other = stays
-
-pub status_moves : WrittenMovesStatus
-status_moves schemas x out e name s t w = moves schemas name x s (written_moves w)
 
 -- The rollback of a creation, and the ends that leave nothing.
 
@@ -365,6 +313,7 @@ way_kept schemas x out e name s t w described once k = record {
     completes = completes_begun_stays schemas x out e name s t w k.supported.completes;
     lists = lists_given_up_stays schemas x out e name s t w k.supported.lists;
     leaves = leaves_once_stays schemas x out e name s t w once k.supported.leaves;
+    few = few_stay schemas x out e name s t w k;
   };
 }
   where
@@ -377,7 +326,7 @@ way_kept schemas x out e name s t w described once k = record {
 
 -- a stack of which nothing is known is on its way
 pub none_on_way : (schemas : List Schema) (name : List ℕ) (x : World) → IsOnWay schemas name x no_stack
-none_on_way schemas name x = grind (arith, none_booked, none_is_ordered, true≢false)
+none_on_way schemas name x = grind (arith, none_booked, none_few, none_is_ordered, true≢false)
 
 -- Whatever happens in the life of an engine, journal and lanes agree, and each stack keeps what its status promises.
 

@@ -431,7 +431,7 @@ tidying_stays schemas x out e name s t stage at w cleanup is now h =
 abbrev NoneIn : ℕ → List Call → Type 0
 NoneIn number cs = (c : Call) → In c (filter (λ d. d.number == number) cs) → (id : List ℕ) → deletes id c.request ≡ false
 
-none_anew : (s t : StackState) → t.operation ≡ s.operation → t.ledger ≡ map anew s.ledger → HasNoDeletion s → HasNoDeletion t
+pub none_anew : (s t : StackState) → t.operation ≡ s.operation → t.ledger ≡ map anew s.ledger → HasNoDeletion s → HasNoDeletion t
 none_anew s t operation ledger h =
     subst (λ n. NoneIn n t.ledger) (sym operation)
     (subst (NoneIn s.operation) (sym ledger) (λ c i id. grind (arith, in_filter, in_changed, in_kept)))
@@ -493,7 +493,7 @@ pub nothing_deleted : NothingDeleted
 nothing_deleted schemas x out e name s t w h g = none_to schemas x out name s w.fits w.apart w.was h (written_is_to schemas x out e name s t w) g
 
 -- a cleanup begins by its phase alone
-never_cleanup : (schemas : List Schema) (name : List ℕ) (x : World) (s : StackState) (stage : Stage) (at : Status) → IsCleanup stage at
+pub never_cleanup : (schemas : List Schema) (name : List ℕ) (x : World) (s : StackState) (stage : Stage) (at : Status) → IsCleanup stage at
     → (from : Status) → EndsAs schemas name x s from at → ⊥
 never_cleanup schemas name x s stage at cleanup from e = grind arith
 
@@ -509,13 +509,13 @@ pub record IsTurned (schemas : List Schema) (name : List ℕ) (x : World) (s t :
 reviewed_at : (stage : Stage) (at : Status) → IsCleanup stage at → (st : Status) → reviewed_status st ≡ at → st ≡ at
 reviewed_at stage at cleanup st e = grind arith
 
-begun_at : (place : ℕ) (name : List ℕ) (number : ℕ) (k : Begun) (s : StackState) (stage : Stage) (at : Status) → IsCleanup stage at
+pub begun_at : (place : ℕ) (name : List ℕ) (number : ℕ) (k : Begun) (s : StackState) (stage : Stage) (at : Status) → IsCleanup stage at
     → (effect_at place (Entry.Begin number name k) s).stack.status ≡ at → ⊥
 begun_at place name number k s stage at cleanup e = grind arith
 
 module _ (schemas : List Schema) (x : World) (out : List ℕ) (name : List ℕ) (s : StackState) (stage : Stage) (at : Status) (cleanup : IsCleanup stage at)
     (not_yet : s.status ≡ at → ⊥) where
-  turned_to : {e : Entry} {t : StackState} → IsMove schemas x out name s e t → t.status ≡ at → IsTurned schemas name x s t
+  pub turned_to : {e : Entry} {t : StackState} → IsMove schemas x out name s e t → t.status ≡ at → IsTurned schemas name x s t
   turned_to (move.stays same) now = absurd (not_yet (sym same ∙ now))
   turned_to (move.turns number p c q may) now = grind (arith, turned_by)
   turned_to (move.ends number state failed g q in_g may) now = grind (arith, never_cleanup, end_status)

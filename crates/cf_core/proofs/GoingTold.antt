@@ -9,7 +9,7 @@ use Rattle.cf_effect.specs.declared.call.Settled.{Settled}
 use Rattle.std.specs.Prelude.{cond, is_some}
 
 -- one more that does not pass comes after the last that does
-after_more : {A : Type 0} (test : A → Bool) (xs : List A) (x : A) → test x ≡ false → after_last test (xs ++ x ∷ []) ≡ after_last test xs ++ x ∷ []
+pub after_more : {A : Type 0} (test : A → Bool) (xs : List A) (x : A) → test x ≡ false → after_last test (xs ++ x ∷ []) ≡ after_last test xs ++ x ∷ []
 after_more test [] x e = ap (λ b. cond b [] (x ∷ [])) e
 after_more test (y ∷ ys) x e = grind (arith, after_more test ys x e, any_no_more)
 

@@ -13,6 +13,7 @@ pub mod FitKept
 pub mod Stacks
 pub mod Outcomes
 pub mod Moving
+pub mod MovesStatus
 pub mod WholeKept
 pub mod RowsBooked
 pub mod BlameStays
@@ -31,3 +32,18 @@ mod MoreStacks
 pub mod GoingTold
 pub mod NamedLanes
 pub mod Rowed
+pub mod Each
+pub mod Alike
+pub mod Failing
+pub mod Heard
+pub mod Turned
+pub mod Sent
+pub mod Counted
+pub mod Few
+pub mod Come
+pub mod FewAhead
+pub mod FewCleaned
+pub mod FewUnmade
+pub mod FewMade
+pub mod FewLeft
+pub mod FewCalls

@@ -17,18 +17,17 @@ use Rattle.cf_effect.specs.Fold.{effect_at, fold_of, is_opening, stack_for, worl
 use Rattle.cf_effect.specs.Status.{is_in_progress}
 use Rattle.cf_effect.specs.Words.{pending_of}
 use Rattle.cf_effect.specs.World.{StackState, World, empty_world, is_going, no_stack, stack_at, stack_of_operation}
-use Rattle.cf_stacks.specs.Apart.{AreApart, HasNextNumber}
-use Rattle.cf_stacks.proofs.Apart.{stay_apart}
+use Rattle.cf_stacks.specs.Apart.{AreApart}
 use Rattle.cf_stacks.proofs.Worlds.{found_stands}
 use Rattle.cf_plan.proofs.Frame.{find_put, found_passes, own_framed}
 use Rattle.cf_plan.proofs.Going.{IsLike, end_operation, like_intended, like_kept, like_replied}
 use Rattle.cf_plan.proofs.Members.{false_from}
 use Rattle.cf_plan.proofs.RunLists.{is_found_in}
-use Rattle.cf_plan.specs.Follow.{IsLegal, MayFollow}
+use Rattle.cf_plan.specs.Follow.{IsLegal}
 use Rattle.cf_plan.specs.Run.{IsOwn}
-use Rattle.cf_core.proofs.FitKept.{after_stacks, at_known, stands_by}
+use Rattle.cf_core.proofs.Each.{legal_all}
+use Rattle.cf_core.proofs.FitKept.{after_stacks}
 use Rattle.cf_core.proofs.KeepSound.{stands_in}
-use Rattle.cf_core.proofs.Moving.{becomes_to}
 use Rattle.cf_core.proofs.Stacks.{known_for, put_by}
 use Rattle.cf_core.specs.Written.{IsTo, begins, opened, other as elsewhere, reviewed, step}
 
@@ -120,9 +119,6 @@ pub begun_operation : (place number : ℕ) (name : List ℕ) (k : Begun) (s : St
 begun_operation place number name k s = grind arith
 
 -- In every journal in which each entry could follow those before it, an operation in progress has a number above 0.
-abbrev AreNumbered : World → Type 0
-AreNumbered x = (name : List ℕ) (s : StackState) → stack_at name x ≡ Some s → is_in_progress s.status ≡ true → 0 < s.operation
-
 abbrev IsNumbered : StackState → Type 0
 IsNumbered s = is_in_progress s.status ≡ true → 0 < s.operation
 
@@ -136,32 +132,27 @@ numbered_to schemas x out name s (reviewed number source rows outputs from) h go
 numbered_to schemas x out name s (opened epoch lanes) h goes = h goes
 numbered_to schemas x out name s elsewhere h goes = h goes
 
-pub next_number : (schemas : List Schema) (out : List ℕ) (x : World) (e : Entry) → MayFollow schemas x out e → HasNextNumber e x
-next_number schemas out x (Entry.Begin number name k) may = let is = may.0 in omega (arith, is)
-next_number schemas out x e may = tt
+pub legal_numbered : (schemas : List Schema) (es : List Entry) → IsLegal schemas empty_world es → (name : List ℕ) (s : StackState)
+    → stack_at name (fold_of empty_world es) ≡ Some s → is_in_progress s.status ≡ true → 0 < s.operation
+legal_numbered schemas es legal =
+    legal_all schemas (λ ds name s. IsNumbered s) (λ ds name e. absurd (true≢false (sym e)))
+    (λ ds e out name s t l apart known to h. numbered_to schemas (fold_of empty_world ds) out name s to h) es legal
 
-legal_numbered : (schemas : List Schema) (es : List Entry) (x : World) → AreApart x → AreNumbered x → IsLegal schemas x es → AreNumbered (fold_of x es)
-legal_numbered schemas [] x apart h l = h
-legal_numbered schemas (e ∷ es) x apart h l =
-    legal_numbered schemas es (world_after x e) (stay_apart x e apart (next_number schemas l.0.0 x e l.0.1)) (λ name t g.
-    let f = stands_by x apart e name t g in
-    numbered_to schemas x l.0.0 name f.stack (becomes_to schemas x l.0.0 name f.stack e t f.known l.0.1 f.becomes)
-    (subst IsNumbered f.known (at_known IsNumbered x name (λ e. absurd (true≢false (sym e))) (h name)))) l.1
-
--- so it is found by its number
-pub found_going : (schemas : List Schema) (es : List Entry) → AreApart (fold_of empty_world es) → IsLegal schemas empty_world es → (name : List ℕ) (s : StackState)
-    → stack_at name (fold_of empty_world es) ≡ Some s → is_in_progress s.status ≡ true
-    → stack_of_operation s.operation (fold_of empty_world es) ≡ Some (name, s)
-found_going schemas es apart legal name s at works =
-    let x : World = fold_of empty_world es in
+-- One with a number above 0 is found by its number, where operations are apart. Without a number, which no legal journal has, another stack
+-- might be found.
+pub going_here : (x : World) (name : List ℕ) (s : StackState) → AreApart x → 0 < s.operation → stack_at name x ≡ Some s → is_in_progress s.status ≡ true
+    → stack_of_operation s.operation x ≡ Some (name, s)
+going_here x name s apart above at works =
     let going : List ℕ × StackState → Bool = λ p. is_going s.operation p.1 in
     let (p, f) = is_found_in going x.stacks (name, s) (stands_in name s x.stacks at) (and_from (s.operation == s.operation) (is_in_progress s.status) (eq-eqb s.operation s.operation refl) works) in
     let there : stack_at p.0 x ≡ Some p.1 = found_stands going x.stacks p apart.names f in
     let same : p.1.operation ≡ s.operation = eqb-true p.1.operation s.operation (first_so (p.1.operation == s.operation) (is_in_progress p.1.status) (found_passes going x.stacks p f)) in
-    let above : 0 < s.operation = legal_numbered schemas es empty_world empty_apart (λ n t g. absurd (cc)) legal name s at works in
     let named : p.0 ≡ name = apart.apart p.0 name p.1 s there at same (subst (λ n. 0 < n) (sym same) above) in
     let it : p.1 ≡ s = some_is _ _ (sym there ∙ ap (λ n. stack_at n x) named ∙ at) in
     f ∙ (λ i. Some (named i, it i))
-  where
-    empty_apart : AreApart empty_world
-    empty_apart = record { names = refl; last = λ n t g. absurd (cc); apart = λ a b t u f g same above. absurd (cc) }
+
+pub found_going : (schemas : List Schema) (es : List Entry) → AreApart (fold_of empty_world es) → IsLegal schemas empty_world es → (name : List ℕ) (s : StackState)
+    → stack_at name (fold_of empty_world es) ≡ Some s → is_in_progress s.status ≡ true
+    → stack_of_operation s.operation (fold_of empty_world es) ≡ Some (name, s)
+found_going schemas es apart legal name s at works =
+    going_here (fold_of empty_world es) name s apart (legal_numbered schemas es legal name s at works) at works

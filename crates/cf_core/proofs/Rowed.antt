@@ -1,19 +1,10 @@
 -- Each open call has its row in the ledger of its stack, whatever the entries are.
-use Rattle.std.proofs.Common.{◌≡◌, ◌⊎◌, inl, inr, ℕ, ◌+◌, ◌==◌, Bool, true, false, cond, List, [], ◌∷◌, ◌++◌, Option, Some, None, map, find, option_map, refl, sym, ◌∙◌, ap, subst, true≢false}
-use Rattle.std.specs.Prelude.{filter, is_some, unwrap_or}
-use Rattle.std.specs.List.{list_any}
+use Rattle.std.proofs.Common.{◌≡◌, inl, inr, ℕ, Bool, true, false, cond, List, [], ◌∷◌, ◌++◌, Option, Some, None, map, find, option_map, refl, sym, ◌∙◌, ap, subst, true≢false}
+use Rattle.std.specs.Prelude.{filter, is_some}
 use Rattle.std.specs.Option.{option_or}
-use Rattle.std.specs.Ordering.{nat_cmp, match_ordering}
-use Rattle.std.specs.Cmp.Lexicographic.{slice_cmp}
-use Rattle.std.specs.declared.cmp.Ordering.{Ordering}
-use Rattle.std.specs.declared.cmp.Ordering.TheVariants.{Less, Equal, Greater}
 use Rattle.std.proofs.lemmas.Bool.{eq-eqb, eqb-true}
 use Rattle.std.proofs.lemmas.List.Folds.{find-append}
-use Rattle.cf_tree.specs.Keys.{put}
 use Rattle.cf_tree.specs.Lists.{In}
-use Rattle.cf_tree.specs.Lists.In.{here, there}
-use Rattle.cf_tree.specs.declared.source.Source.{Source}
-use Rattle.cf_entry.proofs.Codec.{some_is}
 use Rattle.cf_entry.specs.declared.entry.Begun.{Begun}
 use Rattle.cf_entry.specs.declared.entry.Begun.TheVariants as begin
 use Rattle.cf_entry.specs.declared.entry.Entry.{Entry}
@@ -28,23 +19,19 @@ use Rattle.cf_entry.specs.declared.turn.Why.{Why}
 use Rattle.cf_effect.specs.Begin.{beginning}
 use Rattle.cf_effect.specs.Calls.{anew, answered_call, call_under, is_call, is_open_call, is_restore, new_call}
 use Rattle.cf_effect.specs.End.{ended_effect, turned_effect}
-use Rattle.cf_effect.specs.Fold.{effect_at, fold_of, is_opening, opening_heard, stack_for, world_after}
-use Rattle.cf_effect.specs.Reply.{answered, closing, intending, keeping, keeping_known, keeping_unknown, replied, replying, still_open}
+use Rattle.cf_effect.specs.Fold.{effect_at, fold_of}
+use Rattle.cf_effect.specs.Reply.{answered, closing, intending, keeping, replied, replying, still_open}
 use Rattle.cf_effect.specs.Words.{has_token, pending_of}
-use Rattle.cf_effect.specs.World.{StackState, World, empty_world, is_going, known_stack, no_stack, stack_at, stack_of_operation}
+use Rattle.cf_effect.specs.World.{StackState, World, empty_world, no_stack}
 use Rattle.cf_effect.specs.declared.call.Call.{Call}
 use Rattle.cf_effect.specs.declared.held.Pending.{Pending}
 use Rattle.cf_plan.proofs.BlameMade.{answered_left}
-use Rattle.cf_plan.proofs.Causing.{map_in}
 use Rattle.cf_plan.proofs.ChangedLists.{find_left, find_mapped}
 use Rattle.cf_plan.proofs.CreatedRight.{in_filter}
 use Rattle.cf_plan.proofs.CreatedStays.{found_one}
-use Rattle.cf_plan.proofs.Listed.{in_cons, in_last}
+use Rattle.cf_plan.proofs.Listed.{in_last}
 use Rattle.cf_plan.proofs.RunLists.{any_of}
-use Rattle.cf_core.proofs.FitKept.{after_stacks}
-use Rattle.cf_core.proofs.KeepSound.{stands_in}
-use Rattle.cf_core.proofs.Stacks.{put_by}
-use Rattle.cf_core.proofs.Statuses.{intended_way, kept_way}
+use Rattle.cf_core.proofs.{Each.all_left, Statuses.intended_way, Statuses.kept_way}
 
 abbrev pub EachHasRow : StackState → Type 0
 EachHasRow s = (p : Pending) → In p s.tokens → is_some (call_under p.token s) ≡ true
@@ -164,79 +151,9 @@ module _ (s : StackState) (h : EachHasRow s) where
   effect_rows place (entry.Done number state failed) = ended_rows state
   effect_rows place (entry.ChangeSet number name source rows outputs) = h
 
--- what is put in is there, and the others are as they were
-in_put : (n : List ℕ) (v : StackState) (ps : List (List ℕ × StackState)) (q : List ℕ × StackState) → In q (put n v ps) → In q ps ⊎ (q.1 ≡ v)
-in_put n v [] q i = elim (in_cons i) [ inl e ↦ inr (ap (λ (z : List ℕ × StackState). z.1) (sym e)) | inr j ↦ inl j ]
-in_put n v (p ∷ ps) q i = by (slice_cmp nat_cmp n p.0) (in_put n v ps q) i where
-  by : (o : Ordering) → (In q (put n v ps) → In q ps ⊎ (q.1 ≡ v)) → In q (match_ordering o ((n, v) ∷ p ∷ ps) ((p.0, v) ∷ ps) (p ∷ put n v ps))
-      → In q (p ∷ ps) ⊎ (q.1 ≡ v)
-  by Less ih i = elim (in_cons i) [ inl e ↦ inr (ap (λ (z : List ℕ × StackState). z.1) (sym e)) | inr j ↦ inl j ]
-  by Equal ih i = elim (in_cons i) [ inl e ↦ inr (ap (λ (z : List ℕ × StackState). z.1) (sym e)) | inr j ↦ inl (there j) ]
-  by Greater ih i = elim (in_cons i) [
-    | inl e ↦ inl (subst (λ z. In z (p ∷ ps)) e here)
-    | inr j ↦ elim (ih j) [ inl k ↦ inl (there k) | inr same ↦ inr same ]
-  ]
-
 none_open : EachHasRow no_stack
 none_open p i = elim i [ ]
 
-module _ (x : World) (h : HaveRows x) where
-  at_rows : (name : List ℕ) (s : StackState) → stack_at name x ≡ Some s → EachHasRow s
-  at_rows name s q = h (name, s) (stands_in name s x.stacks q)
-
-  known_rows : (name : List ℕ) → EachHasRow (known_stack name x)
-  known_rows name = by (stack_at name x) refl where
-    by : (o : Option StackState) → stack_at name x ≡ o → EachHasRow (known_stack name x)
-    by None q = subst EachHasRow (sym (ap (λ o. unwrap_or o no_stack) q)) none_open
-    by (Some s) q = subst EachHasRow (sym (ap (λ o. unwrap_or o no_stack) q)) (at_rows name s q)
-
-  going_rows : (number : ℕ) (q : List ℕ × StackState) → stack_of_operation number x ≡ Some q → EachHasRow q.1
-  going_rows number q e = h q (found_one (λ (p : List ℕ × StackState). is_going number p.1) x.stacks q e).0
-
-  named_rows : (name : List ℕ) (q : List ℕ × StackState) → option_map (λ (s : StackState). (name, s)) (stack_at name x) ≡ Some q → EachHasRow q.1
-  named_rows name q e = by (stack_at name x) refl e where
-    by : (o : Option StackState) → stack_at name x ≡ o → option_map (λ (s : StackState). (name, s)) o ≡ Some q → EachHasRow q.1
-    by None k f = let never : ⊥ = cc in absurd never
-    by (Some s) k f = subst (λ (z : List ℕ × StackState). EachHasRow z.1) (some_is _ _ f) (at_rows name s k)
-
-  for_rows : (e : Entry) (q : List ℕ × StackState) → stack_for e x ≡ Some q → EachHasRow q.1
-  for_rows (entry.Opened epoch lanes) q e = let never : ⊥ = cc in absurd never
-  for_rows (entry.Begin number name (begin.Create source)) q e = subst (λ (z : List ℕ × StackState). EachHasRow z.1) (some_is _ _ e) (known_rows name)
-  for_rows (entry.Begin number name (begin.Update source)) q e = named_rows name q e
-  for_rows (entry.Begin number name (begin.Delete paths)) q e = named_rows name q e
-  for_rows (entry.Begin number name (begin.Continue paths)) q e = named_rows name q e
-  for_rows (entry.ChangeSet number name source rows outputs) q e = subst (λ (z : List ℕ × StackState). EachHasRow z.1) (some_is _ _ e) (known_rows name)
-  for_rows (entry.Kept number path physical w) q e = going_rows number q e
-  for_rows (entry.Intent number token lane path r) q e = going_rows number q e
-  for_rows (entry.Outcome number token a before after) q e = going_rows number q e
-  for_rows (entry.Phase number p c) q e = going_rows number q e
-  for_rows (entry.Done number state failed) q e = going_rows number q e
-
-  rows_of : (e : Entry) → is_opening e ≡ false → HaveRows (world_after x e)
-  rows_of e new q i = by (stack_for e x) refl (subst (In q) (after_stacks x e new) i) where
-    by : (o : Option (List ℕ × StackState)) → stack_for e x ≡ o → In q (put_by x e o) → EachHasRow q.1
-    by None k j = h q j
-    by (Some s) k j = elim (in_put s.0 (effect_at (x.place + 1) e s.1).stack x.stacks q j) [
-      | inl l ↦ h q l
-      | inr same ↦ subst EachHasRow (sym same) (effect_rows s.1 (for_rows e s k) (x.place + 1) e)
-    ]
-
-  rows_after : (e : Entry) → HaveRows (world_after x e)
-  rows_after (entry.Opened epoch lanes) q i =
-      let (s, j, e) = map_in (opening_heard (x.place + 1) (entry.Opened epoch lanes)) q x.stacks i in
-      subst (λ (z : List ℕ × StackState). EachHasRow z.1) e (effect_rows s.1 (h s j) (x.place + 1) (entry.Opened epoch lanes))
-  rows_after (entry.Begin number name k) q i = rows_of (entry.Begin number name k) refl q i
-  rows_after (entry.ChangeSet number name source rows outputs) q i = rows_of (entry.ChangeSet number name source rows outputs) refl q i
-  rows_after (entry.Kept number path physical w) q i = rows_of (entry.Kept number path physical w) refl q i
-  rows_after (entry.Intent number token lane path r) q i = rows_of (entry.Intent number token lane path r) refl q i
-  rows_after (entry.Outcome number token a before after) q i = rows_of (entry.Outcome number token a before after) refl q i
-  rows_after (entry.Phase number p c) q i = rows_of (entry.Phase number p c) refl q i
-  rows_after (entry.Done number state failed) q i = rows_of (entry.Done number state failed) refl q i
-
-rows_folded : (x : World) (es : List Entry) → HaveRows x → HaveRows (fold_of x es)
-rows_folded x [] h = h
-rows_folded x (e ∷ es) h = rows_folded (world_after x e) es (rows_after x h e)
-
 -- so it is in each world
 pub rows_left : (es : List Entry) → HaveRows (fold_of empty_world es)
-rows_left es = rows_folded empty_world es (λ q i. elim i [ ])
+rows_left es = all_left EachHasRow (λ e. Unit {0}) none_open (λ s h place e is. effect_rows s h place e) es (λ e i. tt)

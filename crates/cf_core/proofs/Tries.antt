@@ -153,7 +153,7 @@ none_below_three : (n : ℕ) → (n == 0) ≡ true → n < 3
 none_below_three n e = let is = eqb-true n 0 e in omega (arith, is)
 
 -- what a phase deletes was tried fewer than three times
-few_tries : (schemas : List Schema) (name : List ℕ) (x : World) (s : StackState) (stage : Stage) (path id : List ℕ)
+pub few_tries : (schemas : List Schema) (name : List ℕ) (x : World) (s : StackState) (stage : Stage) (path id : List ℕ)
     → IntendsIn stage schemas name x s path (Request.Delete id) → length (deletions_of id s) < 3
 few_tries schemas name x s Forward path id may = absurd may.3
 few_tries schemas name x s Clean path id (r, may, kept, at, is) =

@@ -74,7 +74,7 @@ holds u source f name x y t of_source outputs made held exports =
       none_made = made;
     }
 
-cleans_done : (schemas : List Schema) (name : List ℕ) (x : World) (s : StackState) (c : Option Cause) → MayTurn schemas name x s Phase.Clean c
+pub cleans_done : (schemas : List Schema) (name : List ℕ) (x : World) (s : StackState) (c : Option Cause) → MayTurn schemas name x s Phase.Clean c
     → ¬ HasFailed schemas name x s × AllDone s
 cleans_done schemas name x s c may = grind arith
 

@@ -21,8 +21,11 @@ pub mod LifeAgrees
 pub mod Moving
 pub mod GoesOn
 pub mod SoundLife
+pub mod Tokens
 pub mod OnCourse
 pub mod InFlight
 pub mod StatusMoves
 pub mod Theorem
 pub mod More
+pub mod Turned
+pub mod FewCalls

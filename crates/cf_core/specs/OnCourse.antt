@@ -14,10 +14,12 @@ use Rattle.cf_core.specs.Hiding.{AreDescribed, IsOrdered}
 use Rattle.cf_core.specs.More.{CompletesBegun, LeavesOnce, ListsGivenUp}
 use Rattle.cf_core.specs.OneStack.{IsOnce}
 use Rattle.cf_core.specs.Tidying.{HasNoDeletion, HasTriesLeft, deletes_nothing}
+use Rattle.cf_core.specs.Tokens.{HasFewCalls}
 
 -- what an operation rests on in all its stages: properties stand in order, an update that goes forward was not continued, nothing is
 -- deleted before a cleanup, what an open call deletes was not refused three times, and entries and ledger of a forward phase say so of
--- each other; what completed is what was begun, what was given up is listed, and nothing is left over twice
+-- each other; what completed is what was begun, what was given up is listed, nothing is left over twice, and no path is called under
+-- more tokens than its stages give it
 pub record IsSupported (s : StackState) : Type 0 where
   pub ordered : IsOrdered s
   pub skips_none : s.status ≡ status.UpdateInProgress → SkipsNone s
@@ -27,6 +29,7 @@ pub record IsSupported (s : StackState) : Type 0 where
   pub completes : CompletesBegun s
   pub lists : ListsGivenUp s
   pub leaves : LeavesOnce s
+  pub few : HasFewCalls s
 
 pub record IsOnWay (schemas : List Schema) (name : List ℕ) (x : World) (s : StackState) : Type 0 where
   pub course : Course schemas name x s

@@ -14,6 +14,7 @@ mod moves;
 mod returning;
 mod theorem;
 mod tidying;
+mod tokens;
 
 pub use advancing::{advancing_begins, advancing_goes_on, advancing_stays, course_is_free};
 pub use beginnings::{event_keeps, event_writes, start_is_sound_life};
@@ -43,11 +44,13 @@ pub use returning::{
     updates_skip_none, updates_turn_back,
 };
 pub use theorem::{
-    event_holds, events_hold, holds_keeps_promises, lanes_are_named, lives_keep_promises,
-    operations_go_on, starts_hold, way_is_kept,
+    back_is_told, event_holds, events_hold, holds_keeps_promises, lanes_are_named,
+    lives_keep_promises, none_failed_yet, operations_go_on, starts_hold, turns_had_cause,
+    way_is_kept,
 };
 pub use tidying::{
     back_tidying_begins, cleanup_goes_on, deletion_goes_on, forward_goes_on, nothing_deleted,
     operation_goes_on, rollback_goes_on, tidying_begins, tidying_ends, tidying_stays, told_begins,
     told_stays, tries_stay_left,
 };
+pub use tokens::{few_changes, few_stay, one_is_open, tokens_are_few};

@@ -1,6 +1,7 @@
 //! The theorem: what holds at every moment of an engine's life. None of these functions does anything when it runs.
 ghost use Rattle.cf_core.specs.OnCourse.{WayIsKept};
 ghost use Rattle.cf_core.specs.Theorem.{EventHolds, EventsHold, HoldsKeepsPromises, LanesAreNamed, LivesKeepPromises, OperationsGoOn, StartHolds};
+ghost use Rattle.cf_core.specs.Turned.{BackIsTold, NoneFailedYet, TurnsHadCause};
 
 /// From every start, after every list of events of an engine's life each of which may happen in its turn, journal and lanes
 /// agree and each stack keeps what its status promises.
@@ -52,4 +53,21 @@ pub fn operations_go_on()
 /// forward, that of each resource from before the operation, for all of them are still held.
 pub fn lanes_are_named()
     ensures { LanesAreNamed }
+{}
+
+/// At every moment of a life: where an operation has turned back, its forward phase had failed for the cause that is told, as the stack
+/// stood then; and where that cause is a handler, one of the operation's own calls at that path was refused or broke off for that
+/// reason, and its handler's count rose.
+pub fn turns_had_cause()
+    ensures { TurnsHadCause }
+{}
+
+/// At every moment of a life: an operation that has turned back tells its cause, unless it is a continued rollback.
+pub fn back_is_told()
+    ensures { BackIsTold }
+{}
+
+/// While an operation is in progress, none of its paths is told as failed.
+pub fn none_failed_yet()
+    ensures { NoneFailedYet }
 {}

@@ -12,3 +12,9 @@ pub mod Rowed
 pub mod Shown
 pub mod Sought
 pub mod Noted
+pub mod Setbacks
+pub mod Sorted
+pub mod Readied
+pub mod Followed
+pub mod Undone
+pub mod Ends

@@ -5,10 +5,10 @@ use Rattle.std.specs.List.{AllByRecursion, list_any, slice_get}
 use Rattle.std.specs.Option.{option_map_or, option_or}
 use Rattle.std.specs.Str.{bytes_eq}
 use Rattle.std.specs.Global.{Vec}
-use Rattle.std.proofs.lemmas.Bool.{and_parts, eq-eqb, ne_eqb, not-true}
+use Rattle.std.proofs.lemmas.Bool.{and_parts, eq-eqb, eqb-true, ne_eqb, not-true, or_parts}
 use Rattle.std.proofs.Math.Seq.{take-suc}
 use Rattle.std.proofs.lemmas.List.{length-set, length-take}
-use Rattle.std.proofs.lemmas.List.Folds.{find-append}
+use Rattle.std.proofs.lemmas.List.Folds.{find-append, list_any-append}
 use Rattle.std.proofs.lemmas.Option.{none-some, same_Some, slice_get-map, slice_get_within}
 use Rattle.std.proofs.lemmas.Slice.Eq.{bytes_eq-Decides}
 use Rattle.cf_tree.specs.Keys.{value_at}
@@ -39,6 +39,7 @@ use Rattle.cf_effect.specs.declared.held.Pending.{Pending}
 use Rattle.cf_tree.specs.Datum.{Data}
 use Rattle.cf_effect.specs.Words.{change_first, current_at, has_physical, is_current_at, pending_of, resource_at, where_physical}
 use Rattle.cf_effect.specs.World.{StackState, no_stack}
+use Rattle.cf_ready.proofs.Ranked.{read_else}
 use Rattle.cf_effect.proofs.Closed.{any_found}
 use Rattle.cf_effect.proofs.Places.{passes_at, position_changed, position_last}
 use Rattle.cf_effect.proofs.Shown.{shown_now}
@@ -68,20 +69,35 @@ module _ (s : StackState) (l : Layout) (a : AreRows (source_members s) l) (path 
       or_so true c e = refl
       or_so false c e = e
 
-  -- who is no user of a path doesn't need it
-  not_needed : (at : ℕ) (m : Member) → slice_get (source_members s) at ≡ Some m → is_place at (users_at l k) ≡ false → is_among path m.needs ≡ false
-  not_needed at m h u = by (is_among path m.needs) refl where
-    row_there : (o : Option Placed) → slice_get l.rows.items at ≡ o → (x : Placed) × (slice_get l.rows.items at ≡ Some x)
-    row_there (Some x) e = (x, e)
-    row_there None e =
-        absurd (none-some m.path
-        (sym (ap (option_map (λ (x : Placed). x.path)) e) ∙ sym (slice_get-map (λ (x : Placed). x.path) l.rows.items at) ∙ ap (λ (ps : List (List ℕ)). slice_get ps at) a.paths
-        ∙ slice_get-map (λ (n : Member). n.path) (source_members s) at ∙ ap (option_map (λ (n : Member). n.path)) h))
+  row_there : (at : ℕ) (m : Member) → slice_get (source_members s) at ≡ Some m → (o : Option Placed) → slice_get l.rows.items at ≡ o → (x : Placed) × (slice_get l.rows.items at ≡ Some x)
+  row_there at m h (Some x) e = (x, e)
+  row_there at m h None e =
+      absurd (none-some m.path
+      (sym (ap (option_map (λ (x : Placed). x.path)) e) ∙ sym (slice_get-map (λ (x : Placed). x.path) l.rows.items at) ∙ ap (λ (ps : List (List ℕ)). slice_get ps at) a.paths
+      ∙ slice_get-map (λ (n : Member). n.path) (source_members s) at ∙ ap (option_map (λ (n : Member). n.path)) h))
 
+  or_so : (b c : Bool) → c ≡ true → (b || c) ≡ true
+  or_so true c e = refl
+  or_so false c e = e
+
+  place_needed : (ks : List ℕ) → is_place k ks ≡ true → is_among path (map (path_at l.rows.items) ks) ≡ true
+  place_needed [] h = h
+  place_needed (j ∷ ks) h = by (k == j) refl h (place_needed ks) where
+    by : (b : Bool) → (k == j) ≡ b → (b || is_place k ks) ≡ true → (is_place k ks ≡ true → is_among path (map (path_at l.rows.items) ks) ≡ true)
+        → (bytes_eq path (path_at l.rows.items j) || is_among path (map (path_at l.rows.items) ks)) ≡ true
+    by true e g more =
+        let here : path ≡ path_at l.rows.items j =
+        sym is ∙ ap (λ (o : Option Placed). option_map_or (λ x. x.path) o []) (sym there) ∙ ap (path_at l.rows.items) (eqb-true k j e) in
+        ap (λ b. b || is_among path (map (path_at l.rows.items) ks)) (same_bytes path (path_at l.rows.items j) here)
+    by false e g more = or_so (bytes_eq path (path_at l.rows.items j)) (is_among path (map (path_at l.rows.items) ks)) (more g)
+
+  -- who is no user of a path doesn't need it, nor the other way round
+  pub not_needed : (at : ℕ) (m : Member) → slice_get (source_members s) at ≡ Some m → is_place at (users_at l k) ≡ false → is_among path m.needs ≡ false
+  not_needed at m h u = by (is_among path m.needs) refl where
     by : (b : Bool) → is_among path m.needs ≡ b → b ≡ false
     by false e = refl
     by true e =
-        let row = row_there (slice_get l.rows.items at) refl in
+        let row = row_there at m h (slice_get l.rows.items at) refl in
         let it = row_at (source_members s) l a at row.0 row.1 in
         let same : it.0 ≡ m = same_Some it.0 m (sym it.1 ∙ h) in
         let within = slice_get_within l.rows.items at row.0 row.1 in
@@ -89,8 +105,20 @@ module _ (s : StackState) (l : Layout) (a : AreRows (source_members s) l) (path 
         needs_place at (omega (arith, within)) row.0.needs.items it.4 (ap (is_among path) (it.3 ∙ ap (λ (x : Member). x.needs) same) ∙ e) in
         absurd (true≢false (sym so ∙ ap (λ o. is_place k (option_map_or (λ (x : Placed). x.needs.items) o [])) (sym row.1) ∙ sym (a.users k at) ∙ u))
 
+  pub not_user : (at : ℕ) (m : Member) → slice_get (source_members s) at ≡ Some m → is_among path m.needs ≡ false → is_place at (users_at l k) ≡ false
+  not_user at m h n = by (is_place at (users_at l k)) refl where
+    by : (b : Bool) → is_place at (users_at l k) ≡ b → b ≡ false
+    by false e = refl
+    by true e =
+        let row = row_there at m h (slice_get l.rows.items at) refl in
+        let it = row_at (source_members s) l a at row.0 row.1 in
+        let same : it.0 ≡ m = same_Some it.0 m (sym it.1 ∙ h) in
+        let so : is_place k row.0.needs.items ≡ true =
+        ap (λ o. is_place k (option_map_or (λ (x : Placed). x.needs.items) o [])) (sym row.1) ∙ sym (a.users k at) ∙ e in
+        absurd (true≢false (sym (place_needed row.0.needs.items so) ∙ ap (is_among path) (it.3 ∙ ap (λ (x : Member). x.needs) same) ∙ n))
+
 pub none_taken : (xs : List (Option Found)) → AreTaken [] xs xs
-none_taken xs = record { count = refl; kept = λ at e h. h; other = λ at e h. refl }
+none_taken xs = record { count = refl; kept = λ at e h. h; other = λ at e h. refl; same = λ at h. refl }
 
 read_none : (xs : List (Option Found)) (i at : ℕ) (e : Found) → slice_get (set xs i None) at ≡ Some (Some e) → (slice_get xs at ≡ Some (Some e)) × (at ≡ i → ⊥)
 read_none [] i at e h = absurd (none-some (Some e) h)
@@ -117,6 +145,7 @@ one_taken xs y = record {
   count = length-set xs y None;
   kept = λ at e h. (read_none xs y at e h).0;
   other = λ at e h. or_apart at y (read_none xs y at e h).1;
+  same = λ at h. read_else xs y at None (apart_from at y h);
 }
 
 pub one_past : (xs : List (Option Found)) (y : ℕ) → length xs ≤ y → AreTaken (y ∷ []) xs xs
@@ -124,6 +153,7 @@ one_past xs y past = record {
   count = refl;
   kept = λ at e h. h;
   other = λ at e h. or_apart at y (λ k. let under = slice_get_within xs at (Some e) h in omega (arith, under, past, k));
+  same = λ at h. refl;
 }
 
 taken_next : (ps : List ℕ) (y : ℕ) (old mid new : List (Option Found)) → AreTaken ps old mid → AreTaken (y ∷ []) mid new → AreTaken (ps ++ y ∷ []) old new
@@ -131,6 +161,9 @@ taken_next ps y old mid new a o = record {
   count = o.count ∙ a.count;
   kept = λ at e h. a.kept at e (o.kept at e h);
   other = λ at e h. place_more at y ps (a.other at e (o.kept at e h)) (apart_from at y (o.other at e h));
+  same = λ at h.
+      let parts = or_parts (is_place at ps) (is_place at (y ∷ [])) (sym (list_any-append (λ k. at == k) ps (y ∷ [])) ∙ h) in
+      o.same at parts.1 ∙ a.same at parts.0;
 }
 
 pub taken_more : (ps : List ℕ) (i : ℕ) (y : ℕ) (old mid new : List (Option Found)) → i < length ps → y ≡ get_or ps i y → AreTaken (take i ps) old mid
@@ -169,6 +202,7 @@ forgotten s l path k old new a place taken =
       count = taken.count;
       kept = taken.kept;
       other = λ at m e h g. not_needed s l a path k row.0 row.1 (sym ((bytes_eq-Decides path row.0.path).0 row.2)) at m h (taken.other at e g);
+      same = λ at m h n. taken.same at (not_user s l a path k row.0 row.1 (sym ((bytes_eq-Decides path row.0.path).0 row.2)) at m h n);
     }
 
 -- a member stands where a path is placed
@@ -190,7 +224,7 @@ else_path path ns q n h = by (bytes_eq q path) refl where
   by false e = refl
   by true e = absurd (true≢false (sym h ∙ ap (λ p. is_among p ns) ((bytes_eq-Decides q path).0 e) ∙ n))
 
-members_stay : (s t : StackState) → t.going ≡ s.going → t.before ≡ s.before → source_members t ≡ source_members s
+pub members_stay : (s t : StackState) → t.going ≡ s.going → t.before ≡ s.before → source_members t ≡ source_members s
 members_stay s t g b = rw (g, b) refl
 
 pub follows : (path : List ℕ) (s t : StackState) (old new : Findings) → AreFindings s old → Forgets s path old.found.items new.found.items → ShowsElse path s t

@@ -43,13 +43,16 @@ pub record AreTaken (places : List ℕ) (old new : List (Option Found)) : Type 0
   pub count : length new ≡ length old
   pub kept : (at : ℕ) (e : Found) → slice_get new at ≡ Some (Some e) → slice_get old at ≡ Some (Some e)
   pub other : (at : ℕ) (e : Found) → slice_get new at ≡ Some (Some e) → is_place at places ≡ false
+  pub same : (at : ℕ) → is_place at places ≡ false → slice_get new at ≡ slice_get old at
 
--- nothing is left of what was found of a path that needs this one
+-- nothing is left of what was found of a path that needs this one, and of any other all is
 pub record Forgets (s : StackState) (path : List ℕ) (old new : List (Option Found)) : Type 0 where
   pub count : length new ≡ length old
   pub kept : (at : ℕ) (e : Found) → slice_get new at ≡ Some (Some e) → slice_get old at ≡ Some (Some e)
   pub other : (at : ℕ) (m : Member) (e : Found) → slice_get (source_members s) at ≡ Some m → slice_get new at ≡ Some (Some e)
       → is_among path m.needs ≡ false
+  pub same : (at : ℕ) (m : Member) → slice_get (source_members s) at ≡ Some m → is_among path m.needs ≡ false
+      → slice_get new at ≡ slice_get old at
 
 -- the path stands at this place
 abbrev pub IsPlaceOf : StackState → List ℕ → ℕ → Type 0

@@ -21,3 +21,5 @@ pub mod Findings
 pub mod Index
 pub mod Laying
 pub mod Following
+pub mod Ahead
+pub mod Undoing

@@ -5,6 +5,7 @@ ghost use Rattle.cf_desired.specs.Plan.{props_at};
 ghost use Rattle.cf_desired.specs.Shape.{shape_of};
 ghost use Rattle.cf_desired.specs.Whole.{known_of};
 ghost use Rattle.cf_desired.specs.Work.{Member};
+ghost use Rattle.cf_effect.specs.Ahead.{AreKept};
 ghost use Rattle.cf_effect.specs.Begin.{seen_in};
 ghost use Rattle.cf_effect.specs.Findings.{AreFindings, FindsAt, place_among};
 ghost use Rattle.cf_effect.specs.Following.{IsFoundBy, IsNothing, Notes, StandAt, kept_at, nowhere, resource_in, seen_of_places};
@@ -12,6 +13,7 @@ ghost use Rattle.cf_effect.specs.Layout.{IsLayoutOf, source_members};
 ghost use Rattle.cf_effect.specs.State.{state_of};
 ghost use Rattle.cf_effect.specs.World.{StackState};
 
+use crate::ahead::{Ahead, ahead_of, follow_found};
 use crate::following::put_place;
 use crate::held::Held;
 use crate::layout::{Layout, Placed};
@@ -21,6 +23,7 @@ use crate::state::State;
 use cf_desired::{Evaluated, Seen, props_at};
 use cf_tree::{Dict, Txt};
 use std::alloc::{AllocError, Global};
+use std::mem;
 
 /// What the properties of a path come to, with the properties themselves where all are known.
 #[derive(Drop)]
@@ -51,6 +54,8 @@ pub struct Findings {
     pub found: Vec<Option<Found>>,
     /// Of which paths that may be still to be worked out; no contract speaks of it.
     pub unlooked: Unlooked,
+    /// Which paths are ready, where a creation goes forward.
+    pub ahead: Option<Ahead>,
 }
 
 /// The layout of the source of a stack's last create or update, where there was one.
@@ -158,7 +163,8 @@ fn nothing_found(alloc: Global, count: usize) -> Result<Vec<Option<Found>>, Allo
 ///
 /// Only for want of memory.
 pub fn findings_of(alloc: Global, state: &State) -> Result<Findings, AllocError>
-    ensures { IfOk result (AreFindings (state_of state.now)) }
+    ensures findings { IfOk result (AreFindings (state_of state.now)) }
+    ensures kept { IfOk result (AreKept (state_of state.now)) }
 {
     let made = places_in(alloc, state, state.made.as_slice())?;
     let held = places_in(alloc, state, state.held.as_slice())?;
@@ -168,6 +174,7 @@ pub fn findings_of(alloc: Global, state: &State) -> Result<Findings, AllocError>
         held,
         found,
         unlooked: Unlooked::Anything,
+        ahead: None,
     })
 }
 
@@ -334,6 +341,7 @@ fn put_found(findings: &mut Findings, at: usize, found: Found)
     ensures made { findings.new.made ≡ findings.old.made }
     ensures held { findings.new.held ≡ findings.old.held }
     ensures found { findings.new.found.items ≡ set findings.old.found.items at (Some found) }
+    ensures ahead { findings.new.ahead ≡ findings.old.ahead }
 {
     if at < findings.found.len() {
         findings.found[at] = Some(found);
@@ -341,18 +349,23 @@ fn put_found(findings: &mut Findings, at: usize, found: Found)
 }
 
 /// Works out what the properties at a place come to.
-#[tactic(auto, using(crate::proofs::Sought::found_more))]
 fn find_one(
     alloc: Global,
     state: &State,
     findings: &mut Findings,
     at: usize,
 ) -> Result<(), AllocError>
-    requires { AreFindings (state_of state.now) findings.old }
-    ensures { AreFindings (state_of state.now) findings.new }
+    requires { AreKept (state_of state.now) findings.old }
+    ensures { AreKept (state_of state.now) findings.new }
 {
     if let Some(found) = find_at(alloc, state, findings, at)? {
         put_found(findings, at, found);
+        follow_found(
+            &mut findings.ahead,
+            findings.made.as_slice(),
+            findings.found.as_slice(),
+            at,
+        );
     }
     Ok(())
 }
@@ -365,8 +378,8 @@ fn find_due(
     findings: &mut Findings,
     at: usize,
 ) -> Result<(), AllocError>
-    requires { AreFindings (state_of state.now) findings.old }
-    ensures { AreFindings (state_of state.now) findings.new }
+    requires { AreKept (state_of state.now) findings.old }
+    ensures { AreKept (state_of state.now) findings.new }
 {
     if is_due(rows, findings, at) {
         find_one(alloc, state, findings, at)
@@ -377,8 +390,8 @@ fn find_due(
 
 /// Works out what the properties of each path come to, where they are due. After an error some of it may be worked out.
 fn find_all(alloc: Global, state: &State, findings: &mut Findings) -> Result<(), AllocError>
-    requires { AreFindings (state_of state.now) findings.old }
-    ensures { AreFindings (state_of state.now) findings.new }
+    requires { AreKept (state_of state.now) findings.old }
+    ensures { AreKept (state_of state.now) findings.new }
 {
     let rows = rows_of(state);
     for at in 0..rows.len() {
@@ -395,8 +408,8 @@ fn find_each(
     places: &[usize],
     findings: &mut Findings,
 ) -> Result<(), AllocError>
-    requires { AreFindings (state_of state.now) findings.old }
-    ensures { AreFindings (state_of state.now) findings.new }
+    requires { AreKept (state_of state.now) findings.old }
+    ensures { AreKept (state_of state.now) findings.new }
 {
     let rows = rows_of(state);
     for at in places {
@@ -413,8 +426,8 @@ fn find_users(
     at: usize,
     findings: &mut Findings,
 ) -> Result<(), AllocError>
-    requires { AreFindings (state_of state.now) findings.old }
-    ensures { AreFindings (state_of state.now) findings.new }
+    requires { AreKept (state_of state.now) findings.old }
+    ensures { AreKept (state_of state.now) findings.new }
 {
     match layout_of(state) {
         Some(layout) => find_each(alloc, state, layout.users_at(at), findings),
@@ -423,9 +436,9 @@ fn find_users(
 }
 
 /// Nothing is to be looked at any more.
-#[tactic(auto, using(crate::proofs::Sought::kept_same))]
+#[tactic(auto, using(crate::proofs::Followed::kept_looked))]
 fn set_looked(findings: &mut Findings)
-    ensures { (s : StackState) → AreFindings s findings.old → AreFindings s findings.new }
+    ensures { (s : StackState) → AreKept s findings.old → AreKept s findings.new }
 {
     findings.unlooked = Unlooked::Nothing;
 }
@@ -433,8 +446,8 @@ fn set_looked(findings: &mut Findings)
 /// Works out what the properties come to of the paths of which that may be to be done, where they are due. After an error some of
 /// it may be worked out.
 fn find_unlooked(alloc: Global, state: &State, findings: &mut Findings) -> Result<(), AllocError>
-    requires { AreFindings (state_of state.now) findings.old }
-    ensures { AreFindings (state_of state.now) findings.new }
+    requires { AreKept (state_of state.now) findings.old }
+    ensures { AreKept (state_of state.now) findings.new }
 {
     match findings.unlooked {
         Unlooked::Nothing => Ok(()),
@@ -446,29 +459,61 @@ fn find_unlooked(alloc: Global, state: &State, findings: &mut Findings) -> Resul
 /// Works out what the properties of each path come to all of whose needs are made or held, where that is not known yet: of those
 /// that may have become so since all was looked at. After an error some of it may be worked out.
 fn find_more(alloc: Global, state: &State, findings: &mut Findings) -> Result<(), AllocError>
-    requires { AreFindings (state_of state.now) findings.old }
-    ensures { AreFindings (state_of state.now) findings.new }
+    requires { AreKept (state_of state.now) findings.old }
+    ensures { AreKept (state_of state.now) findings.new }
 {
     find_unlooked(alloc, state, findings)?;
     set_looked(findings);
     Ok(())
 }
 
+/// Keeps which paths are ready, where a creation goes forward.
+fn put_ahead(findings: &mut Findings, ahead: Option<Ahead>)
+    ensures { findings.new ≡ record findings.old { ahead = ahead } }
+{
+    drop(mem::replace(&mut findings.ahead, ahead));
+}
+
+/// Works out which paths are ready, where a creation goes forward and that is not kept yet.
+#[tactic(auto, using(crate::proofs::Followed::kept_ahead))]
+fn look_ahead(alloc: Global, state: &State, findings: &mut Findings) -> Result<(), AllocError>
+    requires { AreKept (state_of state.now) findings.old }
+    ensures { AreKept (state_of state.now) findings.new }
+{
+    if findings.ahead.is_none() {
+        let made = findings.made.as_slice();
+        let ahead = ahead_of(alloc, state, made, findings.found.as_slice())?;
+        put_ahead(findings, ahead);
+    }
+    Ok(())
+}
+
+/// Works out what the properties of each path come to all of whose needs are made or held, and which paths are ready, where that
+/// is not known yet. After an error some of it may be worked out.
+fn look_on(alloc: Global, state: &State, findings: &mut Findings) -> Result<(), AllocError>
+    requires { AreKept (state_of state.now) findings.old }
+    ensures { AreKept (state_of state.now) findings.new }
+{
+    find_more(alloc, state, findings)?;
+    look_ahead(alloc, state, findings)
+}
+
 /// Works out what the properties of each path come to all of whose needs are made or held, where that is not known yet; the
-/// findings are laid out first, where there are none. After an error some of it may be worked out.
+/// findings are laid out first, where there are none, and which paths are ready is kept, where a creation goes forward. After an error
+/// some of it may be worked out.
 ///
 /// # Errors
 ///
 /// Only for want of memory.
 pub fn look(alloc: Global, state: &State, findings: &mut Option<Findings>) -> Result<(), AllocError>
-    requires { IfSome findings.old (AreFindings (state_of state.now)) }
-    ensures { IfSome findings.new (AreFindings (state_of state.now)) }
+    requires { IfSome findings.old (AreKept (state_of state.now)) }
+    ensures { IfSome findings.new (AreKept (state_of state.now)) }
 {
     match findings {
-        Some(findings) => find_more(alloc, state, findings),
+        Some(findings) => look_on(alloc, state, findings),
         None => {
             let mut first = findings_of(alloc, state)?;
-            let found = find_more(alloc, state, &mut first);
+            let found = look_on(alloc, state, &mut first);
             *findings = Some(first);
             found
         }

@@ -2,6 +2,7 @@
 ghost use Rattle.std.specs.Prelude.{◌≡◌, ◌∷◌, [], ℕ, Bool, IfSome, IsTrue, Some, false, find, option_copied};
 ghost use Rattle.std.specs.Option.{option_or};
 ghost use Rattle.cf_effect.specs.declared.held.Held.{Held as resource};
+ghost use Rattle.cf_effect.specs.Ahead.{AreKept, KeepsAhead, StaysAfter, StaysAhead, completes_create, is_created_by};
 ghost use Rattle.cf_effect.specs.Findings.{AreFindings};
 ghost use Rattle.cf_effect.specs.Fold.{effect_at};
 ghost use Rattle.cf_effect.specs.Following.{AreTaken, Forgets, IsPlaceOf, KeepsPath, with_place};
@@ -9,6 +10,7 @@ ghost use Rattle.cf_effect.specs.Reply.{answered, changing, making};
 ghost use Rattle.cf_effect.specs.State.{state_of};
 ghost use Rattle.cf_effect.specs.Words.{has_physical};
 
+use crate::ahead::{follow_made, lose_unless};
 use crate::findings::{Findings, Found, Unlooked, layout_of};
 use crate::held::{Held, Pending};
 use crate::resources::with_physical;
@@ -88,13 +90,20 @@ fn note_users(unlooked: &mut Unlooked, at: usize) {
 /// findings.
 fn note_made(state: &State, findings: &mut Findings, path: &Txt) -> bool
     requires { AreFindings (state_of state.now) findings.old }
-    ensures { IsTrue result → (h : resource) → h.path ≡ path.now → h.superseded ≡ false
+    ensures ahead { IsTrue result → KeepsAhead (state_of state.now) findings.old → KeepsAhead (state_of state.now) findings.new }
+    ensures made { IsTrue result → (h : resource) → h.path ≡ path.now → h.superseded ≡ false
         → AreFindings (making h (state_of state.now)) findings.new }
 {
     match forget_users(state, &mut findings.found, path) {
         Some(at) => {
             put_place(&mut findings.made, at, state.made.len());
             note_users(&mut findings.unlooked, at);
+            follow_made(
+                &mut findings.ahead,
+                findings.made.as_slice(),
+                findings.found.as_slice(),
+                at,
+            );
             true
         }
         None => false,
@@ -118,6 +127,7 @@ fn note_changed(state: &State, findings: &mut Findings, physical: &Txt) -> bool
     ensures same { IsTrue result → AreFindings (state_of state.now) findings.new }
     ensures changed { IsTrue result → (change : resource → resource) → KeepsPath change
         → AreFindings (changing physical.now change (state_of state.now)) findings.new }
+    ensures ahead { findings.new.ahead ≡ findings.old.ahead }
 {
     match resource_with(state, physical) {
         Some(held) => match forget_users(state, &mut findings.found, &held.path) {
@@ -132,10 +142,12 @@ fn note_changed(state: &State, findings: &mut Findings, physical: &Txt) -> bool
 }
 
 /// Notes what an answer to a call changes; `false` where nothing is said of the findings then.
+#[tactic(auto, using(crate::proofs::Followed::stays_other))]
 fn note_answer(state: &State, pending: &Pending, answer: &Reply, findings: &mut Findings) -> bool
     requires { AreFindings (state_of state.now) findings.old }
-    ensures { IsTrue result → (restores : Bool)
+    ensures findings { IsTrue result → (restores : Bool)
         → AreFindings (answered restores pending.now.path pending.now.request answer.now (state_of state.now)) findings.new }
+    ensures ahead { IsTrue result → StaysAhead pending.now.request answer.now (state_of state.now) findings.old findings.new }
 {
     match &pending.request {
         Request::Create { .. } => match answer {
@@ -153,7 +165,8 @@ fn note_answer(state: &State, pending: &Pending, answer: &Reply, findings: &mut 
 /// Notes what an entry changes, where it is an outcome; `false` where nothing is said of the findings then.
 fn note_entry(state: &State, entry: &Entry, findings: &mut Findings) -> bool
     requires { AreFindings (state_of state.now) findings.old }
-    ensures { IsTrue result → (place : ℕ) → AreFindings (effect_at place entry.now (state_of state.now)).stack findings.new }
+    ensures findings { IsTrue result → (place : ℕ) → AreFindings (effect_at place entry.now (state_of state.now)).stack findings.new }
+    ensures ahead { IsTrue result → StaysAfter entry.now (state_of state.now) findings.old findings.new }
 {
     match entry {
         Entry::Outcome { token, answer, .. } => {
@@ -166,14 +179,50 @@ fn note_entry(state: &State, entry: &Entry, findings: &mut Findings) -> bool
     }
 }
 
+/// Whether an answer completes a call that is a create.
+fn completes_create(pending: &Pending, answer: &Reply) -> bool
+    ensures { result ≡ completes_create pending.now.request answer.now }
+{
+    match &pending.request {
+        Request::Create { .. } => matches!(answer, Reply::Success { .. }),
+        _ => false,
+    }
+}
+
+/// Whether an entry says that a create of the stack is complete.
+fn is_created_by(state: &State, entry: &Entry) -> bool
+    ensures { result ≡ is_created_by entry.now (state_of state.now) }
+{
+    match entry {
+        Entry::Outcome { token, answer, .. } => {
+            match pending_with(state.tokens.as_slice(), *token) {
+                Some(pending) => completes_create(pending, answer),
+                None => false,
+            }
+        }
+        _ => false,
+    }
+}
+
+/// Notes what an entry changes, and lets go what is kept of a creation unless a create is complete; `false` where nothing is said of
+/// the findings then.
+#[tactic(auto, using(crate::proofs::Followed::lost_found, crate::proofs::Followed::entry_followed))]
+fn note_outcome(state: &State, entry: &Entry, findings: &mut Findings) -> bool
+    requires { AreKept (state_of state.now) findings.old }
+    ensures { IsTrue result → (place : ℕ) → AreKept (effect_at place entry.now (state_of state.now)).stack findings.new }
+{
+    lose_unless(findings, is_created_by(state, entry));
+    note_entry(state, entry, findings)
+}
+
 /// Lets findings follow an outcome of their stack, which is still to come; they are dropped where another entry comes, and where
 /// the outcome is none of a path's. It takes no memory.
 pub fn follow(state: &State, entry: &Entry, findings: &mut Option<Findings>)
-    requires { IfSome findings.old (AreFindings (state_of state.now)) }
-    ensures { (place : ℕ) → IfSome findings.new (AreFindings (effect_at place entry.now (state_of state.now)).stack) }
+    requires { IfSome findings.old (AreKept (state_of state.now)) }
+    ensures { (place : ℕ) → IfSome findings.new (AreKept (effect_at place entry.now (state_of state.now)).stack) }
 {
     let follows = match findings {
-        Some(findings) => note_entry(state, entry, findings),
+        Some(findings) => note_outcome(state, entry, findings),
         None => true,
     };
     if !follows {

@@ -5,7 +5,7 @@ ghost use Rattle.cf_tree.specs.Keys.{value_at};
 ghost use Rattle.cf_desired.specs.ComeFirst.{ComeFirst};
 ghost use Rattle.cf_desired.specs.Turns.{pathed};
 ghost use Rattle.cf_desired.specs.Work.{Member};
-ghost use Rattle.cf_effect.specs.Layout.{AreRows, users_at};
+ghost use Rattle.cf_effect.specs.Layout.{AreRows, row_needs, users_at};
 ghost use Rattle.cf_effect.specs.Following.{IsPlaceIn, stands_at};
 ghost use Rattle.cf_effect.specs.Laying.{AreUsers, JoinsUsers, is_user, laid_row, row_told};
 
@@ -65,6 +65,16 @@ impl Layout {
         ensures { option_copied result ≡ slice_get self.now.rows.items at }
     {
         self.rows.get(at)
+    }
+
+    /// The places of what the path at a place needs.
+    pub fn needs_at(&self, at: usize) -> &[usize]
+        ensures { result.now ≡ row_needs self.now.rows.items at }
+    {
+        match self.rows.get(at) {
+            Some(row) => row.needs.as_slice(),
+            None => &[],
+        }
     }
 
     /// The places of what needs the path at a place.

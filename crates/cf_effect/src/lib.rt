@@ -1,6 +1,7 @@
 //! What a journal's entry leaves of the stack that it is of: what a stack holds, its calls, and in `specs/` the fold.
 #![tactic(auto)]
 
+mod ahead;
 mod begin;
 mod call;
 mod copies;
@@ -24,7 +25,9 @@ mod state;
 mod statuses;
 mod terms;
 mod tokens;
+mod undoing;
 
+pub use ahead::{Ahead, Way, follow_call};
 pub use begin::source_for;
 pub use call::{Call, Ledger, Settled, new_call};
 pub use cf_export::{Output, Outputs};
@@ -49,3 +52,4 @@ pub use state::{Lines, State};
 pub use statuses::{begun, is_in_progress};
 pub use terms::Terms;
 pub use tokens::{is_open, pending_with};
+pub use undoing::{Undoing, follow_deletion, follow_try, look_back};

@@ -19,8 +19,8 @@ use crate::layout::{Layout, lay_out};
 use crate::seen::seen_in;
 use crate::terms::Terms;
 use cf_desired::{
-    Plan, Seen, Shape, Templates, Terms as Termed, WholePlan, all_terms, export_names, plan,
-    plan_by, shape_of, templates_of, whole,
+    Plan, Seen, Shape, Shared, Templates, Terms as Termed, WholePlan, all_terms, export_names,
+    plan, plan_by, shape_of, templates_of, whole,
 };
 use cf_export::Outputs;
 use cf_tree::{ByName, Listing, Names, Source, TryClone, Txt};
@@ -43,7 +43,7 @@ struct Reading {
     templates: Templates,
     shape: Shape,
     terms: ByName<Terms>,
-    layout: Layout,
+    layout: Shared<Layout>,
 }
 
 /// What a create or an update set out with: what its stack held as it began, and its source. What is
@@ -117,11 +117,19 @@ fn terms_by(alloc: Global, shape: &Shape) -> Result<ByName<Terms>, AllocError>
 }
 
 /// The layout of a source, by its shape.
-fn layout_by(alloc: Global, shape: &Shape) -> Result<Layout, AllocError>
+fn laid_by(alloc: Global, shape: &Shape) -> Result<Layout, AllocError>
     ensures { IfOk result (IsLaidBy shape.now) }
 {
     let all = all_terms(alloc, shape)?;
     lay_out(alloc, all.as_slice())
+}
+
+/// The layout of a source, by its shape, to be shared.
+fn layout_by(alloc: Global, shape: &Shape) -> Result<Shared<Layout>, AllocError>
+    ensures { IfOk result (IsLaidBy shape.now) }
+{
+    let layout = laid_by(alloc, shape)?;
+    Shared::new(alloc, layout)
 }
 
 /// The policies and needs that are given a path, or else the defaults.
@@ -276,6 +284,17 @@ impl Outset {
         ensures { AreRows (resources_in (shape_of self.now.source (seen_in self.now.before))) result.now }
     {
         &self.ground.read.layout
+    }
+
+    /// The layout of the source, to be shared.
+    ///
+    /// # Errors
+    ///
+    /// Only for want of memory.
+    pub(crate) fn share_layout(&self, alloc: Global) -> Result<Shared<Layout>, AllocError>
+        ensures { IfOk result (AreRows (resources_in (shape_of self.now.source (seen_in self.now.before)))) }
+    {
+        self.ground.read.layout.try_clone(alloc)
     }
 
     /// The policies and needs that the source gives a path, over what was held.

@@ -1,6 +1,7 @@
 //! What entries change of the resources of a stack.
-ghost use Rattle.std.specs.Prelude.{◌≡◌, ◌≤◌, IfOk, find, map, option_copied, position, vec_len, vec_capacity};
+ghost use Rattle.std.specs.Prelude.{◌≡◌, ◌≤◌, IfOk, find, map, option_copied, position, true, vec_len, vec_capacity};
 ghost use Rattle.std.specs.List.{list_any};
+ghost use Rattle.std.specs.Str.{bytes_eq};
 ghost use Rattle.cf_effect.specs.Begin.{as_before, skipped_in};
 ghost use Rattle.cf_effect.specs.End.{doubtful, marked};
 ghost use Rattle.cf_effect.specs.Reply.{status_made, updating};
@@ -42,13 +43,32 @@ pub(crate) fn with_physical<'a>(helds: &'a [Held], physical: &Txt) -> Option<&'a
     helds.iter().find(|held| *physical == held.physical)
 }
 
+/// Whether two texts end alike: in the same byte, where neither is empty.
+#[tactic(auto, using(crate::proofs::Ends::ends_same))]
+fn ends_alike(bytes: &[u8], others: &[u8]) -> bool
+    ensures { bytes.now ≡ others.now → result ≡ true }
+{
+    match (bytes.last(), others.last()) {
+        (Some(byte), Some(other)) => *byte == *other,
+        _ => true,
+    }
+}
+
+/// Whether two ids are the same. Those of one lane begin alike, so that their ends are compared first.
+#[tactic(auto, using(crate::proofs::Ends::ends_apart))]
+fn is_same_id(id: &Txt, other: &Txt) -> bool
+    ensures { result ≡ bytes_eq id.now other.now }
+{
+    ends_alike(id.as_str().as_bytes(), other.as_str().as_bytes()) && *id == *other
+}
+
 /// Takes the resource of a physical id off a list.
 pub(crate) fn remove(helds: &mut Helds, physical: &Txt)
     ensures items { helds.new.items ≡ without physical.now helds.old.items }
     ensures len { vec_len helds.new ≤ vec_len helds.old }
     ensures capacity { vec_capacity helds.new ≡ vec_capacity helds.old }
 {
-    helds.retain(|held| !(*physical == held.physical));
+    helds.retain(|held| !is_same_id(physical, &held.physical));
 }
 
 /// Gives the resource of a physical id a status.

@@ -19,7 +19,7 @@ use Rattle.cf_face.specs.Words.{is_command_line, is_in_form}
 use Rattle.cf_io.specs.declared.library.Library.{Ghosts as LibraryGhosts}
 use Rattle.cf_workers.specs.Agreement.{Agree, all_as_told}
 use Rattle.cf_top.specs.Answer.{Prints, RanAs}
-use Rattle.cf_top.specs.Deployment.{IsUnasked, LibraryUse}
+use Rattle.cf_top.specs.Refusals.{IsUnasked, LibraryUse}
 use Rattle.cf_top.specs.Outside.{Printing}
 use Rattle.cf_top.specs.declared.top.Ended.{Ended}
 

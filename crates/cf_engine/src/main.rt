@@ -41,18 +41,25 @@ const USAGE: &str = "usage: cfstack HOME WORKERS WORD ..\
 \nHOME is a folder with templates/ in it, WORKERS a number from 1 to 64.\
 \n\
 \n  deploy STACK TEMPLATE NAME=VALUE ..\
-\n                     make the resources of the template HOME/templates/TEMPLATE,\
+\n                     create or update the stack by the template HOME/templates/TEMPLATE,\
 \n                     with these values for its parameters\
+\n  continue-rollback STACK PATH ..\
+\n                     go on with the rollback of an update that failed, and skip\
+\n                     what failed at these paths\
+\n  resume STACK       end the operation that is in progress on the stack\
 \n  describe STACK     tell the stack that the journal leaves\
 \n  validate TEMPLATE  say whether the template HOME/templates/TEMPLATE can be read\
 \n\
 \nexits:\
-\n   0 Done             the stack is made, or told; the template can be read\
+\n   0 Done             the stack is created or updated, the rollback that was\
+\n                      continued is done, the stack is told; the template can be read\
 \n   1 BadWords         the command line says nothing that is known\
-\n   2 TemplateRefused  no template, or one that can't be made; nothing was made\
-\n   3 StackRefused     no such stack, or one that is there already; nothing was made\
-\n   4 RolledBack       the stack could not be made; all that was made is deleted again\
-\n   5 Failed           the stack could not be made, and not all that was made is deleted\
+\n   2 TemplateRefused  no template, or one that can't be made; nothing was done\
+\n   3 StackRefused     no such stack, not from its status, not at this path, or nothing\
+\n                      changes; nothing was done\
+\n   4 RolledBack       the stack could not be created, and what was made is deleted;\
+\n                      or it could not be updated, and is as it was before\
+\n   5 Failed           the same, but its rollback failed too, at the paths that are told\
 \n   6 LibraryFault     the templates can't be read\
 \n   7 DiskFault        the journal can't be read or written\
 \n   8 SinkFault        the report can't be printed\

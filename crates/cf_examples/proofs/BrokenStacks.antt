@@ -257,6 +257,8 @@ not_booked = record {
   goes_forward_though_continued = λ s. let e = s.skips_none refl in absurd (cc);
   deleted_before_the_cleanup = λ s. true≢false (s.undeleted refl deletion here (codes "f1:1"));
   refused_three_times_and_open = λ s. let few = s.tries open_deletion (codes "f1:1") here refl in absurd (omega (arith, few));
+  created_twice = λ s. let few = s.few.forward.creates (codes "Web") in absurd (omega (arith, few));
+  deleted_four_times = λ s. let few = s.few.returns.deletions (codes "f1:1") in absurd (omega (arith, few));
   lane_of_no_schema = λ d. true≢false (sym (d _ here));
 }
 

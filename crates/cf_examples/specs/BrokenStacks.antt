@@ -312,4 +312,6 @@ pub record NotBooked : Type 0 where
   pub deleted_before_the_cleanup : ¬ IsSupported (record update { ledger = deletion ∷ [] })
   pub refused_three_times_and_open :
       ¬ IsSupported (record app { tokens = open_deletion ∷ []; ledger = refused_deletion ∷ refused_deletion ∷ refused_deletion ∷ [] })
+  pub created_twice : ¬ IsSupported (record app { ledger = first.call ∷ first.call ∷ [] })
+  pub deleted_four_times : ¬ IsSupported (record app { ledger = deletion ∷ deletion ∷ deletion ∷ deletion ∷ [] })
   pub lane_of_no_schema : ¬ AreDescribed [] world

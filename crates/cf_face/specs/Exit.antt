@@ -1,5 +1,5 @@
 -- How a command ended, and the line that says so (this project's own).
-use Rattle.std.specs.Prelude.{ℕ, List, [], ◌∷◌, decimal, codes}
+use Rattle.std.specs.Prelude.{ℕ, List, [], ◌∷◌, ◌++◌, decimal, codes}
 use Rattle.cf_desired.specs.FlawText.{flaw_text}
 use Rattle.cf_template.specs.declared.refusal.TemplateFault.{TemplateFault}
 use Rattle.cf_template.specs.declared.refusal.TemplateFault.TheVariants as unread
@@ -122,3 +122,11 @@ field_words (exit.Full length need room) = decimal length ∷ decimal need ∷ d
 -- the line of an exit: `exit`, its number, its name, and its fields in order
 abbrev pub exit_line : Exit → List ℕ
 exit_line e = line_of (codes "exit") (decimal (exit_number e) ∷ exit_name e ∷ field_words e)
+
+-- What is printed where no report is: the line of the exit, and before it, where nothing changes, that of CloudFormation (API, UpdateStack).
+abbrev pub unchanged_line : Exit → List ℕ
+unchanged_line (exit.StackRefused stack.NoChanges) = codes "No updates are to be performed.\n"
+unchanged_line _ = []
+
+abbrev pub ending_text : Exit → List ℕ
+ending_text e = unchanged_line e ++ exit_line e

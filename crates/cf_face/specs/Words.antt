@@ -1,14 +1,17 @@
 -- What the words of a command line ask for: the table of commands (this project's own).
-use Rattle.std.specs.Prelude.{ℕ, ◌==◌, ◌&&◌, ◌||◌, ◌+◌, ◌-◌, ◌*◌, Bool, true, false, if◌then◌else◌, List, [], ◌∷◌, length, sum_by, nat_le, nat_lt, Option, None, Some, is_some, option_map, option_and_then, codes}
+use Rattle.std.specs.Prelude.{ℕ, ◌==◌, ◌&&◌, ◌||◌, ◌+◌, ◌-◌, ◌*◌, ◌++◌, Bool, true, false, if◌then◌else◌, List, [], ◌∷◌, length, sum_by, nat_le, nat_lt, Option, None, Some, is_some, option_map, option_and_then, codes}
 use Rattle.std.specs.List.{list_all}
 use Rattle.std.specs.Str.{bytes_eq}
 use Rattle.std.specs.Int.{is_in_range}
 use Rattle.std.specs.Char.{is_ascii_alphabetic, is_ascii_alphanumeric}
-use Rattle.cf_funcs.specs.Pieces.{cut_at}
+use Rattle.cf_funcs.specs.Pieces.{cut_at, pieces_of}
 use Rattle.cf_tree.specs.Keys.{put, value_at}
+use Rattle.cf_tree.specs.Lists.{is_among}
 use Rattle.cf_template.specs.Words.{is_name}
 use Rattle.cf_face.specs.declared.words.Command.{Command}
 use Rattle.cf_face.specs.declared.words.Command.TheVariants as command
+use Rattle.cf_face.specs.declared.words.Task.{Task}
+use Rattle.cf_face.specs.declared.words.Task.TheVariants as task
 
 -- a letter, digit or `-` (45)
 abbrev pub is_name_byte : ℕ → Bool
@@ -46,6 +49,30 @@ deploy_of (stack ∷ template ∷ settings) =
     if is_stack_name stack && is_template_name template then option_map (command.Deploy stack template) (given_of settings) else None
 deploy_of _ = None
 
+-- a path: names of resources and nested stacks, joined by `/` (this project's own)
+abbrev pub is_path : List ℕ → Bool
+is_path word = list_all is_name (pieces_of (codes "/") word)
+
+-- what words are as paths, in their order, behind those that others were; a word that is no path, or a path that is named twice, makes them
+-- none
+abbrev pub paths_beside : List (List ℕ) → List (List ℕ) → Option (List (List ℕ))
+paths_beside [] paths = Some paths
+paths_beside (word ∷ words) paths =
+    if is_among word paths then None else (if is_path word then paths_beside words (paths ++ word ∷ []) else None)
+
+abbrev pub paths_of : List (List ℕ) → Option (List (List ℕ))
+paths_of words = paths_beside words []
+
+-- `continue-rollback STACK PATH ..`
+abbrev pub continue_of : List (List ℕ) → Option Command
+continue_of (stack ∷ words) = if is_stack_name stack then option_map (command.ContinueRollback stack) (paths_of words) else None
+continue_of _ = None
+
+-- `resume STACK`
+abbrev pub resume_of : List (List ℕ) → Option Command
+resume_of (stack ∷ []) = if is_stack_name stack then Some (command.Resume stack) else None
+resume_of _ = None
+
 -- `describe STACK`
 abbrev pub describe_of : List (List ℕ) → Option Command
 describe_of (stack ∷ []) = if is_stack_name stack then Some (command.Describe stack) else None
@@ -61,14 +88,25 @@ abbrev pub command_of : List (List ℕ) → Option Command
 command_of [] = None
 command_of (word ∷ words) =
     if bytes_eq (codes "deploy") word then deploy_of words
+    else (if bytes_eq (codes "continue-rollback") word then continue_of words
+    else (if bytes_eq (codes "resume") word then resume_of words
     else (if bytes_eq (codes "describe") word then describe_of words
-    else (if bytes_eq (codes "validate") word then validate_of words else None))
+    else (if bytes_eq (codes "validate") word then validate_of words else None))))
 
 -- whether a command changes a stack, and so drives handlers
 abbrev pub drives : Command → Bool
 drives (command.Deploy stack template given) = true
+drives (command.ContinueRollback stack paths) = true
+drives (command.Resume stack) = true
 drives (command.Describe stack) = false
 drives (command.Validate template) = false
+
+-- the stack that a command changes and what is to be done with it, if it changes one
+abbrev pub task_of : Command → Option (List ℕ × Task)
+task_of (command.Deploy stack template given) = Some (stack, task.Deploy (record { template = template; given = given }))
+task_of (command.ContinueRollback stack paths) = Some (stack, task.Continue paths)
+task_of (command.Resume stack) = Some (stack, task.Resume)
+task_of _ = None
 
 -- the number of workers that a word names: a decimal number from 1 to 64 without a leading zero, of one digit
 -- or two (this project's own)

@@ -3,7 +3,7 @@
 ghost use Rattle.std.specs.Prelude.{◌≡◌, ◌++◌, [], ◌∷◌, codes, decimal, IfOk, string_bytes};
 ghost use Rattle.cf_desired.specs.FlawText.{flaw_text};
 ghost use Rattle.cf_face.specs.Line.{spaced, text_word};
-ghost use Rattle.cf_face.specs.Exit.{exit_number, exit_name, refusal_words, stack_words, field_words, exit_line};
+ghost use Rattle.cf_face.specs.Exit.{exit_number, exit_name, refusal_words, stack_words, field_words, exit_line, unchanged_line, ending_text};
 
 use crate::cause::push_cause;
 use crate::fault_words::{push_counted, push_unread};
@@ -174,6 +174,29 @@ impl Exit {
         self.push_fields(alloc, text)?;
         text.push('\n')?;
         Ok(())
+    }
+
+    // Adds the line that comes before that of the exit, if there is one.
+    fn push_unchanged(&self, text: &mut String) -> Result<(), NoMemory>
+        ensures { IfOk result (λ _. string_bytes text.new ≡ string_bytes text.old ++ unchanged_line self.now) }
+    {
+        match self {
+            Exit::StackRefused {
+                fault: StackFault::NoChanges,
+            } => {
+                text.push_str("No updates are to be performed.\n")?;
+                Ok(())
+            }
+            _ => Ok(()),
+        }
+    }
+
+    // Adds what is printed of an exit without a report.
+    pub(crate) fn push_ending(&self, alloc: Global, text: &mut String) -> Result<(), NoMemory>
+        ensures { IfOk result (λ _. string_bytes text.new ≡ string_bytes text.old ++ ending_text self.now) }
+    {
+        self.push_unchanged(text)?;
+        self.push_line(alloc, text)
     }
 }
 

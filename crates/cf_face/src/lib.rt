@@ -15,4 +15,4 @@ mod words;
 pub use exit::{Exit, Refusal, StackFault};
 pub use print::{print_exit, print_text, put};
 pub use telling::report;
-pub use words::{Choice, Command, read_words, read_workers};
+pub use words::{Choice, Command, Task, read_words, read_workers};

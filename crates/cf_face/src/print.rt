@@ -1,6 +1,6 @@
 //! What a command prints.
 ghost use Rattle.std.specs.Prelude.{◌≡◌, ◌≤◌};
-ghost use Rattle.cf_face.specs.Exit.{exit_line};
+ghost use Rattle.cf_face.specs.Exit.{ending_text};
 ghost use Rattle.cf_face.specs.Print.{PrintTells};
 ghost use Rattle.cf_face.specs.declared.exit.Exit.TheVariants.{Done};
 
@@ -22,13 +22,14 @@ pub fn put<K: Sink>(out: &mut K, text: &str, exit: Exit) -> Exit
     }
 }
 
-/// Prints the line of an exit, and answers the exit; or `SinkFault` or `NoMemory`, as `put` does.
+/// Prints how a command ended that has no report, and answers the exit; or `SinkFault` or `NoMemory`, as `put` does. It is the
+/// line of the exit, and before it, where nothing changes, a line that says so.
 pub fn print_exit<K: Sink>(alloc: Global, out: &mut K, exit: Exit) -> Exit
     ensures faults { K.count out.old ≤ K.count out.new }
-    ensures tells { PrintTells (K.held out.old) (K.held out.new) (K.count out.old) (K.count out.new) (exit_line exit) exit result }
+    ensures tells { PrintTells (K.held out.old) (K.held out.new) (K.count out.old) (K.count out.new) (ending_text exit) exit result }
 {
     let mut text = String::new(alloc);
-    match exit.push_line(alloc, &mut text) {
+    match exit.push_ending(alloc, &mut text) {
         Ok(()) => put(out, text.as_str(), exit),
         Err(NoMemory) => Exit::NoMemory,
     }

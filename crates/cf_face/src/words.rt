@@ -1,14 +1,14 @@
 //! The words of a command line.
 
-ghost use Rattle.std.specs.Prelude.{◌≡◌, IfOk, option_map};
+ghost use Rattle.std.specs.Prelude.{◌≡◌, IfOk, map, option_map, string_bytes};
 ghost use Rattle.std.specs.Char.{is_ascii_alphanumeric};
 ghost use Rattle.std.specs.List.{list_all};
 ghost use Rattle.cf_template.specs.Words.{is_name};
-ghost use Rattle.cf_face.specs.declared.words.Command.TheVariants.{Deploy};
-ghost use Rattle.cf_face.specs.Words.{command_of, drives, workers_of, deploy_of, describe_of, validate_of, setting_in_word, given_of, is_stack_name, is_template_name, is_name_byte};
+ghost use Rattle.cf_face.specs.declared.words.Command.TheVariants.{ContinueRollback, Deploy};
+ghost use Rattle.cf_face.specs.Words.{command_of, continue_of, drives, workers_of, deploy_of, describe_of, resume_of, validate_of, setting_in_word, given_of, is_path, is_stack_name, is_template_name, is_name_byte, paths_of, task_of};
 
-use cf_funcs::cut;
-use cf_tree::{NoMemory, Pairs, Txt};
+use cf_funcs::{cut, split};
+use cf_tree::{Names, NoMemory, Pairs, Txt};
 use std::alloc::Global;
 
 /// The longest name of a parameter, in bytes.
@@ -21,6 +21,17 @@ pub struct Choice {
     pub given: Pairs,
 }
 
+/// What a command that drives handlers is to do with its stack.
+#[derive(Drop)]
+pub enum Task {
+    /// Create it by a template, or update it by one.
+    Deploy(Choice),
+    /// Go on with its rollback, which failed, and skip what failed at these paths.
+    Continue(Names),
+    /// End the operation that is in progress on it.
+    Resume,
+}
+
 /// What a command line asks for.
 #[derive(Drop)]
 pub enum Command {
@@ -29,6 +40,15 @@ pub enum Command {
         stack: Txt,
         template: Txt,
         given: Pairs,
+    },
+    /// `continue-rollback STACK PATH ..`: go on with the rollback of an update that failed, and skip what failed at these paths.
+    ContinueRollback {
+        stack: Txt,
+        paths: Names,
+    },
+    /// `resume STACK`: end the operation that is in progress on the stack.
+    Resume {
+        stack: Txt,
     },
     /// `describe STACK`: report on the stack.
     Describe {
@@ -46,8 +66,26 @@ impl Command {
         ensures { result ≡ drives self.now }
     {
         match self {
-            Command::Deploy { .. } => true,
+            Command::Deploy { .. } | Command::ContinueRollback { .. } | Command::Resume { .. } => {
+                true
+            }
             Command::Describe { .. } | Command::Validate { .. } => false,
+        }
+    }
+
+    /// The stack that the command changes and what is to be done with it, if it changes one.
+    pub fn into_task(self) -> Option<(Txt, Task)>
+        ensures { result ≡ task_of self }
+    {
+        match self {
+            Command::Deploy {
+                stack,
+                template,
+                given,
+            } => Some((stack, Task::Deploy(Choice { template, given }))),
+            Command::ContinueRollback { stack, paths } => Some((stack, Task::Continue(paths))),
+            Command::Resume { stack } => Some((stack, Task::Resume)),
+            Command::Describe { stack: _ } | Command::Validate { template: _ } => None,
         }
     }
 }
@@ -56,7 +94,8 @@ impl Command {
 ///
 /// A stack's name is a letter, then letters, digits and `-`, at most 128 of them. A template's name has
 /// 1 to 128 bytes. What is given for a parameter is cut at the first `=`: the name before it has 1 to 255 letters and
-/// digits and stands once, the value behind it may be empty.
+/// digits and stands once, the value behind it may be empty. A path is names of 1 to 255 letters and digits, joined by `/`,
+/// and stands once.
 ///
 /// # Errors
 ///
@@ -69,6 +108,12 @@ pub fn read_words(alloc: Global, words: &[Txt]) -> Result<Option<Command>, NoMem
     };
     if word.is("deploy") {
         return read_deploy(alloc, rest);
+    }
+    if word.is("continue-rollback") {
+        return read_continue(alloc, rest);
+    }
+    if word.is("resume") {
+        return read_resume(alloc, rest);
     }
     if word.is("describe") {
         return read_describe(alloc, rest);
@@ -154,12 +199,12 @@ fn setting(word: &str) -> Option<(&str, &str)>
     ensures { option_map (λ s. (s.0.now, s.1.now)) result ≡ setting_in_word word.now }
 {
     match cut(word, "=") {
-        Some((name, value)) if is_parameter_name(name) => Some((name, value)),
+        Some((name, value)) if is_logical_id(name) => Some((name, value)),
         _ => None,
     }
 }
 
-fn is_parameter_name(name: &str) -> bool
+fn is_logical_id(name: &str) -> bool
     ensures { result ≡ is_name name.now }
 {
     !name.is_empty() && name.len() <= LONGEST_NAME && are_alphanumeric(name.as_bytes())
@@ -169,6 +214,84 @@ fn are_alphanumeric(bytes: &[u8]) -> bool
     ensures { result ≡ list_all is_ascii_alphanumeric bytes.now }
 {
     bytes.iter().all(|b| b.is_ascii_alphanumeric())
+}
+
+// The words after `continue-rollback`.
+fn read_continue(alloc: Global, words: &[Txt]) -> Result<Option<Command>, NoMemory>
+    ensures { IfOk result (λ command. command ≡ continue_of words.now) }
+{
+    match words.split_first() {
+        Some((stack, rest)) if is_stack_name(stack.as_str()) => continuation(alloc, stack, rest),
+        _ => Ok(None),
+    }
+}
+
+// The continued rollback of a stack, if the other words are paths.
+fn continuation(alloc: Global, stack: &Txt, rest: &[Txt]) -> Result<Option<Command>, NoMemory>
+    ensures { IfOk result (λ command. command ≡ option_map (ContinueRollback stack.now) (paths_of rest.now)) }
+{
+    match read_paths(alloc, rest)? {
+        Some(paths) => Ok(Some(Command::ContinueRollback {
+            stack: stack.try_clone(alloc)?,
+            paths,
+        })),
+        None => Ok(None),
+    }
+}
+
+// The paths that words are, in their order.
+fn read_paths(alloc: Global, words: &[Txt]) -> Result<Option<Names>, NoMemory>
+    ensures { IfOk result (λ paths. paths ≡ paths_of words.now) }
+{
+    let mut paths = Names::new(alloc);
+    for word in words {
+        if paths.contains(word) {
+            return Ok(None);
+        }
+        if !is_path(alloc, word.as_str())? {
+            return Ok(None);
+        }
+        paths.push(word.try_clone(alloc)?)?;
+    }
+    Ok(Some(paths))
+}
+
+// Whether a word is names joined by `/`.
+fn is_path(alloc: Global, word: &str) -> Result<bool, NoMemory>
+    ensures { IfOk result (λ b. b ≡ is_path word.now) }
+{
+    match split(alloc, "/", word) {
+        Ok(names) => {
+            let all = are_names(names.as_slice());
+            drop(names);
+            Ok(all)
+        }
+        Err(_) => Err(NoMemory),
+    }
+}
+
+fn are_names(names: &[String]) -> bool
+    ensures { result ≡ list_all is_name (map string_bytes names.now) }
+{
+    for name in names {
+        if !is_logical_id(name.as_str()) {
+            return false;
+        }
+    }
+    true
+}
+
+// The words after `resume`.
+fn read_resume(alloc: Global, words: &[Txt]) -> Result<Option<Command>, NoMemory>
+    ensures { IfOk result (λ command. command ≡ resume_of words.now) }
+{
+    match words {
+        [stack] if is_stack_name(stack.as_str()) => {
+            let stack = stack.try_clone(alloc)?;
+            Ok(Some(Command::Resume { stack }))
+        }
+        _ => Ok(None),
+    }
 }
 
 // The words after `describe`.

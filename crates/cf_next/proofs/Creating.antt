@@ -3,8 +3,7 @@ use Rattle.std.proofs.Common.{◌≡◌, inl, inr, ℕ, zero, suc, ◌+◌, ◌=
 use Rattle.std.specs.Prelude.{⊤, option_and_then}
 use Rattle.std.specs.List.{AllByRecursion, filter_map, list_all, list_any, slice_get}
 use Rattle.std.specs.Option.{option_copied, option_map_or}
-use Rattle.std.proofs.Math.Seq.{take-suc}
-use Rattle.std.proofs.lemmas.List.{append-nil, length-take}
+use Rattle.std.proofs.lemmas.List.{append-nil}
 use Rattle.std.proofs.lemmas.Option.{slice_get_within}
 use Rattle.cf_tree.specs.Datum.{Data}
 use Rattle.cf_tree.specs.Keys.{ascends, value_at}
@@ -23,8 +22,9 @@ use Rattle.cf_effect.specs.declared.findings.Found.{Found}
 use Rattle.cf_effect.specs.declared.held.Held.{Held}
 use Rattle.cf_effect.specs.declared.layout.Layout.{Layout}
 use Rattle.cf_effect.specs.declared.layout.Placed.{Placed}
+use Rattle.cf_effect.specs.declared.ahead.Ahead.{Ahead}
+use Rattle.cf_effect.specs.Ahead.{IsAhead, is_right, is_setback, is_sound, is_update_of}
 use Rattle.cf_effect.specs.Findings.{AreFindings}
-use Rattle.cf_effect.specs.Heard.{is_success_outcome}
 use Rattle.cf_effect.specs.Layout.{IsLayoutOf}
 use Rattle.cf_effect.specs.Operation.{after_last, before_first, forward_of, is_phase, is_turn_or_opening, now_of, up_to_last}
 use Rattle.cf_effect.specs.Status.{Forward, stage_of}
@@ -42,13 +42,15 @@ use Rattle.cf_plan.specs.declared.cause.Failure.TheVariants.{Nothing}
 use Rattle.cf_plan.specs.declared.path_state.PathFinding.{PathFinding}
 use Rattle.cf_plan.specs.declared.path_state.PathFinding.TheVariants as it
 use Rattle.cf_plan.specs.declared.path_state.PathState.{PathState}
+use Rattle.cf_plan.proofs.NoneNested.{none_by}
 use Rattle.cf_plan.proofs.Listed.{in_cons}
 use Rattle.cf_plan.proofs.Members.{any_in, false_from, in_none, not_both}
 use Rattle.cf_plan.proofs.StatesOpen.{are_open_by, failed_on_the_way}
 use Rattle.cf_plan.proofs.StatesRead.{read_so}
 use Rattle.cf_next.specs.declared.step.Next.{Next}
 use Rattle.cf_next.specs.Chosen.{IsChosen}
-use Rattle.cf_next.specs.Creation.{GoesAhead, are_made, are_sound, create_at, creates_of_rows, creates_of, first_named, found_at, is_made_at, is_right, is_setback, is_sound, is_sound_row, is_update_of, known_at}
+use Rattle.cf_next.specs.Creation.{GoesAhead, are_made, are_sound, create_at, creates_of_rows, creates_of, first_named, found_at, is_made_at, is_sound_row, known_at}
+use Rattle.cf_next.specs.Repeats.{AreRepeatsBut}
 use Rattle.cf_next.specs.First.{call_in, fits_one, homes_now, is_start_before}
 use Rattle.cf_next.specs.Rollback.{IsTaken}
 use Rattle.cf_next.proofs.Advancing.{is_going}
@@ -56,13 +58,6 @@ use Rattle.cf_next.proofs.FirstBegun.{new_chosen}
 use Rattle.cf_next.proofs.FirstNamed.{first_by_name}
 use Rattle.cf_next.proofs.Firsts.{IsFirst, starts_in_order}
 use denote.Ref.{Bor}
-
--- A success is no setback.
-pub no_setback : (e : Entry) → is_success_outcome e ≡ true → is_setback e ≡ false
-no_setback (entry.Outcome n t (reply.Success id attrs) b a) h = refl
-no_setback (entry.Outcome n t (reply.Failed c) b a) h = absurd (true≢false (sym h))
-no_setback (entry.Outcome n t reply.Doubt b a) h = absurd (true≢false (sym h))
-no_setback _ h = absurd (true≢false (sym h))
 
 -- Where no entry is a setback, none fails the phase.
 module _ (schemas : List Schema) (s : StackState) where
@@ -282,10 +277,10 @@ module _ (s : StackState) (l : Layout) (f : Findings) (layout : IsLayoutOf s (So
 
     not_updated : (at : ℕ) → is_done_at updated at ≡ false
     not_updated at =
-        ap (λ ms. is_done_at ms at) (no_marks s.ledger goes.updates (replicate (length l.rows.items) false)) ∙ none_marked (length l.rows.items) at
+        ap (λ ms. is_done_at ms at) (no_marks s.ledger goes.forth.updates (replicate (length l.rows.items) false)) ∙ none_marked (length l.rows.items) at
 
     none_held : (o : Option ℕ) → option_copied (option_map lent (option_and_then (slice_get s.held) o)) ≡ None
-    none_held o = copied_lent (option_and_then (slice_get s.held) o) ∙ ap (λ hs. option_and_then (slice_get hs) o) goes.held ∙ by o where
+    none_held o = copied_lent (option_and_then (slice_get s.held) o) ∙ ap (λ hs. option_and_then (slice_get hs) o) goes.forth.held ∙ by o where
       by : (o : Option ℕ) → option_and_then (slice_get (let none : List Held = [] in none)) o ≡ None
       by None = refl
       by (Some k) = refl
@@ -394,56 +389,43 @@ module _ (s : StackState) (l : Layout) (f : Findings) (layout : IsLayoutOf s (So
       good : (a : Start) → In a creates → HasFailed schemas name x s → ⊥
       good a i =
           subst (λ fs. IsFailureOf schemas name x s (or_path (least fs) Nothing)) (none_flawed l.rows.items 0 all_same sound)
-          (failed_on_the_way s states are enough schemas name x (none_failing schemas s goes.setbacks) goes.nested (left a i))
+          (failed_on_the_way s states are enough schemas name x (none_failing schemas s goes.forth.setbacks) (none_by s goes.forth.nested) (left a i))
 
       chosen : (a : Start) → IsFirst is_start_before starts_in_order (fits_one (homes_now out x)) (λ b. In b creates) (Some a)
           → (n : Next) → call_in (homes_now out x) (x.token + 1) a ≡ Some n → IsChosen schemas name x out s Forward n
       chosen a first n c =
-          let offer = is_going schemas name x out s (ap stage_of goes.creates) (good a first.0) creates are_open false
+          let offer = is_going schemas name x out s (ap stage_of goes.forth.creates) (good a first.0) creates are_open false
           (λ t. absurd (true≢false (sym t)), λ all. absurd (left a first.0 all)) [] (goes.idle schemas name x Forward refl (good a first.0)) in
           new_chosen schemas name x out s Forward _ offer (λ q i. absurd (in_none i)) (Some a) None first (λ j i. absurd (in_none i)) n c
 
--- by what code has
-pub create_taken : {E : Type 0} (out : List ℕ) (x : World) (l : Layout) (f : Findings) (s : StackState) (placed : List Placed) (sound : Bool)
-    (lanes : List (List ℕ × List ℕ)) (names : List (List ℕ × ℕ)) (a : Start) (res : Result (Option Next) E) → GoesAhead out s → IsLayoutOf s (Some l) → AreFindings s f
-    → placed ≡ l.rows.items → (sound ≡ true → are_sound f 0 placed ≡ true) → sound ≡ true → lanes ≡ homes_now out x
-    → names ≡ l.places → ascends names ≡ true → first_named lanes s l f names ≡ Some a
+-- by what is kept
+module _ (s : StackState) (f : Findings) (k : Ahead) (ahead : IsAhead s f.made.items f.found.items k) where
+  all_sound : ((at : ℕ) → get_or k.readiness.unsound at false ≡ false) → are_sound f 0 k.layout.rows.items ≡ true
+  all_sound none = from 0 k.layout.rows.items (λ i row h. ap (slice_get k.layout.rows.items) (let n : 0 + i ≡ i = omega arith in n) ∙ h) where
+    one : (made sound : Bool) → (made && not sound) ≡ false → (not made || sound) ≡ true
+    one true true e = refl
+    one true false e = absurd (true≢false e)
+    one false sound e = refl
+
+    from : (first : ℕ) (rows : List Placed) → ((i : ℕ) (row : Placed) → slice_get rows i ≡ Some row → slice_get k.layout.rows.items (first + i) ≡ Some row)
+        → are_sound f first rows ≡ true
+    from first [] h = refl
+    from first (row ∷ rows) h =
+        let here : slice_get k.layout.rows.items first ≡ Some row = ap (slice_get k.layout.rows.items) (let n : first ≡ first + 0 = omega arith in n) ∙ h 0 row refl in
+        let sound : is_sound_row f first row ≡ true =
+        one (are_made f row.needs.items) (is_sound (found_at f first)) (sym (ahead.ready.flags first row here).unsound ∙ none first) in
+        ap (λ b. b && are_sound f (suc first) rows) sound
+        ∙ from (suc first) rows (λ i r e. ap (slice_get k.layout.rows.items) (let n : suc first + i ≡ first + suc i = omega arith in n) ∙ h (suc i) r e)
+
+pub create_taken : {E : Type 0} (out : List ℕ) (x : World) (s : StackState) (f : Findings) (k : Ahead) (lanes : List (List ℕ × List ℕ)) (a : Start)
+    (res : Result (Option Next) E) → IsAhead s f.made.items f.found.items k → AreFindings s f → ((at : ℕ) → get_or k.readiness.unsound at false ≡ false)
+    → AreRepeatsBut [] out s [] → ascends k.layout.places ≡ true → lanes ≡ homes_now out x → first_named lanes s k.layout f k.layout.places ≡ Some a
     → IfOk res (λ n. n ≡ call_in lanes (x.token + 1) a) → IfOk res (IsTaken out x s)
-create_taken out x l f s placed sound lanes names a (Err e) goes layout finds r t u h p q g c = tt
-create_taken out x l f s placed sound lanes names a (Ok None) goes layout finds r t u h p q g c = tt
-create_taken out x l f s placed sound lanes names a (Ok (Some n)) goes layout finds r t u h p q g c = λ schemas name stage at.
-    let forward : Forward ≡ stage = some_is Forward stage (sym (ap stage_of goes.creates) ∙ at) in
+create_taken out x s f k lanes a (Err e) ahead finds none idle order h g c = tt
+create_taken out x s f k lanes a (Ok None) ahead finds none idle order h g c = tt
+create_taken out x s f k lanes a (Ok (Some n)) ahead finds none idle order h g c = λ schemas name stage at.
+    let forward : Forward ≡ stage = some_is Forward stage (sym (ap stage_of ahead.forth.creates) ∙ at) in
     subst (λ stage. IsChosen schemas name x out s stage n) forward
-    (chosen s l f layout finds out goes x (ap (are_sound f 0) (sym r) ∙ t u) schemas name a
-    (first_by_name (homes_now out x) s l f (ap ascends (sym p) ∙ q) layout finds a
-    (ap (λ hs. first_named hs s l f l.places) (sym h) ∙ ap (first_named lanes s l f) (sym p) ∙ g)) n
+    (chosen s k.layout f ahead.rows finds out (record { forth = ahead.forth; idle = idle }) x (all_sound s f k ahead none) schemas name a
+    (first_by_name (homes_now out x) s k.layout f order ahead.rows finds a (ap (λ hs. first_named hs s k.layout f k.layout.places) (sym h) ∙ g)) n
     (ap (λ hs. call_in hs (x.token + 1) a) (sym h) ∙ sym c))
-
--- one row more
-one_more : (rows : List Placed) (i : ℕ) (row : Placed) → i < length rows → row ≡ get_or rows i row → take (i + 1) rows ≡ take i rows ++ row ∷ []
-one_more rows i row within is =
-    let next : suc i ≡ i + 1 = omega arith in ap (λ k. take k rows) (sym next) ∙ take-suc rows i row within ∙ ap (λ z. take i rows ++ z ∷ []) (sym is)
-
-taken_count : (rows : List Placed) (i : ℕ) → i < length rows → length (take i rows) ≡ i
-taken_count rows i within = grind (arith, length-take {A = Placed})
-
-sound_last : (f : Findings) (first : ℕ) (rows : List Placed) (row : Placed) → are_sound f first rows ≡ true → is_sound_row f (first + length rows) row ≡ true
-    → are_sound f first (rows ++ row ∷ []) ≡ true
-sound_last f first [] row t u = rw (subst (λ at. is_sound_row f at row ≡ true) (let e : first + 0 ≡ first = omega arith in e) u) refl
-sound_last f first (r ∷ rest) row t u =
-    by (is_sound_row f first r) t
-    (λ e. sound_last f (suc first) rest row e
-    (subst (λ at. is_sound_row f at row ≡ true) (let n : first + suc (length rest) ≡ suc first + length rest = omega arith in n) u))
-  where
-    by : (b : Bool) → (b && are_sound f (suc first) rest) ≡ true → (are_sound f (suc first) rest ≡ true → are_sound f (suc first) (rest ++ row ∷ []) ≡ true)
-        → (b && are_sound f (suc first) (rest ++ row ∷ [])) ≡ true
-    by true e more = more e
-    by false e more = e
-
-pub sound_more : (f : Findings) (rows : List Placed) (i : ℕ) (row : Placed) (sound : Bool) → i < length rows → row ≡ get_or rows i row
-    → are_sound f 0 (take i rows) ≡ true → sound ≡ is_sound_row f i row → sound ≡ true → are_sound f 0 (take (i + 1) rows) ≡ true
-sound_more f rows i row sound within is t e u =
-    let count = taken_count rows i within in
-    ap (are_sound f 0) (one_more rows i row within is)
-    ∙ sound_last f 0 (take i rows) row t
-    (subst (λ at. is_sound_row f at row ≡ true) (let k : i ≡ 0 + length (take i rows) = omega (arith, count) in k) (sym e ∙ u))

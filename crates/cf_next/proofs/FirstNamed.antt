@@ -10,6 +10,7 @@ use Rattle.cf_tree.specs.Keys.{ascends, ascends_from, bytes_lt, value_at}
 use Rattle.cf_tree.specs.Lists.{In, here, there}
 use Rattle.cf_entry.proofs.Codec.{some_is}
 use Rattle.cf_effect.proofs.Places.{passes_at}
+use Rattle.cf_effect.proofs.Sorted.{its_place}
 use Rattle.cf_effect.specs.declared.findings.Findings.{Findings}
 use Rattle.cf_effect.specs.declared.layout.Layout.{Layout}
 use Rattle.cf_effect.specs.declared.layout.Placed.{Placed}
@@ -25,10 +26,9 @@ use Rattle.cf_next.specs.Chosen.{physical_id_of, precedes}
 use Rattle.cf_next.specs.Creation.{create_at, creates_of_rows, creates_of, first_named, fitting_at, known_at, may_create, or_fitting}
 use Rattle.cf_next.specs.First.{fits_one, is_start_before}
 use Rattle.cf_next.proofs.Firsts.{IsFirst, starts_in_order}
-use Rattle.cf_next.proofs.RollingBack.{its_place}
 
 -- names that ascend
-above : {X : Type 0} (k : List ℕ) (ps : List (List ℕ × X)) → ascends_from k ps ≡ true → (q : List ℕ × X) → In q ps → bytes_lt k q.0 ≡ true
+pub above : {X : Type 0} (k : List ℕ) (ps : List (List ℕ × X)) → ascends_from k ps ≡ true → (q : List ℕ × X) → In q ps → bytes_lt k q.0 ≡ true
 above k [] h q i = absurd (in_none i)
 above k (p ∷ ps) h q i =
     let low = first_so (bytes_lt k p.0) (ascends_from p.0 ps) h in
@@ -37,7 +37,7 @@ above k (p ∷ ps) h q i =
       | inr j ↦ lower k p.0 q.0 low (above p.0 ps (second_so (bytes_lt k p.0) (ascends_from p.0 ps) h) q j)
     ]
 
-others : {X : Type 0} (k : List ℕ) (ps : List (List ℕ × X)) → ascends_from k ps ≡ true → ascends ps ≡ true
+pub others : {X : Type 0} (k : List ℕ) (ps : List (List ℕ × X)) → ascends_from k ps ≡ true → ascends ps ≡ true
 others k [] h = refl
 others k (p ∷ ps) h = second_so (bytes_lt k p.0) (ascends_from p.0 ps) h
 
@@ -232,4 +232,4 @@ module _ (homes : List (List ℕ × List ℕ)) (s : StackState) (l : Layout) (f 
 
           nothing : is_start_before b a ≡ true → fitting_at homes s l f c.at ≡ None
           nothing t =
-              w.before (c.row.path, c.at) (name_of_value c.row.path c.at l.places (its_place s f are l rows c.at c.row c.stands)) (lower_path t)
+              w.before (c.row.path, c.at) (name_of_value c.row.path c.at l.places (its_place s l rows c.at c.row c.stands)) (lower_path t)

@@ -8,6 +8,7 @@ pub mod FactsTold
 mod FailedOnce
 pub mod FirstBegun
 mod FirstNamed
+mod FirstReady
 mod Firsts
 mod Followed
 mod GoingForward
@@ -24,6 +25,7 @@ pub mod Removing
 pub mod Repeating
 pub mod Restored
 pub mod Retaining
+pub mod FirstLeft
 pub mod RollingBack
 mod Same
 pub mod Tallying

@@ -1,66 +1,35 @@
 -- The create that comes next while a creation goes forward, as it is found by places (this project's own).
-use Rattle.std.specs.Prelude.{◌≡◌, ◌==◌, ◌&&◌, ◌||◌, ℕ, suc, Bool, true, false, not, List, [], ◌∷◌, ◌++◌, Option, None, Some, find, fold, is_some, option_and_then, if◌then◌else◌}
-use Rattle.std.specs.List.{list_all, list_any, slice_get}
-use Rattle.std.specs.Option.{option_map_or}
+use Rattle.std.specs.Prelude.{◌≡◌, ◌&&◌, ◌||◌, ℕ, suc, Bool, true, not, List, [], ◌∷◌, ◌++◌, Option, None, Some, find, fold, option_and_then, if◌then◌else◌}
+use Rattle.std.specs.List.{slice_get}
 use Rattle.cf_tree.specs.Datum.{Data}
 use Rattle.cf_tree.specs.declared.request.Request.TheVariants as request
-use Rattle.cf_entry.specs.declared.entry.Entry.{Entry}
-use Rattle.cf_entry.specs.declared.entry.Entry.TheVariants as entry
-use Rattle.cf_entry.specs.declared.entry.Reply.TheVariants as reply
-use Rattle.cf_entry.specs.declared.status.Status.TheVariants as status
-use Rattle.cf_desired.specs.declared.wanted.Evaluated.{Evaluated}
-use Rattle.cf_desired.specs.declared.wanted.Evaluated.TheVariants as evaluated
-use Rattle.cf_effect.specs.declared.call.Call.{Call}
+use Rattle.cf_ready.specs.Ready.{are_made_in, is_made_in}
 use Rattle.cf_effect.specs.declared.findings.Findings.{Findings}
 use Rattle.cf_effect.specs.declared.findings.Found.{Found}
 use Rattle.cf_effect.specs.declared.layout.Layout.{Layout}
 use Rattle.cf_effect.specs.declared.layout.Placed.{Placed}
-use Rattle.cf_effect.specs.Following.{kept_at}
-use Rattle.cf_effect.specs.Words.{is_update}
+use Rattle.cf_effect.specs.Ahead.{GoesForth, found_in, is_sound}
 use Rattle.cf_effect.specs.World.{StackState}
 use Rattle.cf_plan.specs.Follow.{is_free}
-use Rattle.cf_plan.specs.Forward.{plan_now}
 use Rattle.cf_plan.specs.Start.{Start}
 use Rattle.cf_next.specs.First.{fits_one}
 use Rattle.cf_next.specs.Repeats.{AreRepeatsBut}
 
--- an outcome that may fail a forward phase: a refusal or a doubt
-abbrev pub is_setback : Entry → Bool
-is_setback (entry.Outcome number token (reply.Failed code) before after) = true
-is_setback (entry.Outcome number token reply.Doubt before after) = true
-is_setback _ = false
-
--- an update of an operation
-abbrev pub is_update_of : ℕ → Call → Bool
-is_update_of number c = c.number == number && is_update c.request
-
 -- A creation goes forward that holds nothing from before and had no setback and no update; nothing waits to be made again, and no stack
 -- is nested in it.
 pub record GoesAhead (out : List ℕ) (s : StackState) : Type 0 where
-  pub creates : s.status ≡ status.CreateInProgress
-  pub held : s.held ≡ []
-  pub updates : list_any (is_update_of s.operation) s.ledger ≡ false
-  pub setbacks : list_any is_setback s.entries ≡ false
-  pub nested : (plan_now s).nested ≡ []
+  pub forth : GoesForth s
   pub idle : AreRepeatsBut [] out s []
 
--- By the places of a layout: the path at a place is made; and all that a path needs.
+-- By the places of a layout: the path at a place is made; all that a path needs is; and what is kept of its properties.
 abbrev pub is_made_at : Findings → ℕ → Bool
-is_made_at f at = is_some (kept_at f.made.items at)
+is_made_at f at = is_made_in f.made.items at
 
 abbrev pub are_made : Findings → List ℕ → Bool
-are_made f needs = list_all (is_made_at f) needs
+are_made f needs = are_made_in f.made.items needs
 
--- what is kept of the properties at a place; they are sound where they are at no fault
 abbrev pub found_at : Findings → ℕ → Option Found
-found_at f at = option_and_then (λ found. found) (slice_get f.found.items at)
-
-abbrev pub is_right : Evaluated → Bool
-is_right (evaluated.Flawed flaw) = false
-is_right (evaluated.Known props) = true
-
-abbrev pub is_sound : Option Found → Bool
-is_sound found = option_map_or (λ e. is_right e.evaluated) found false
+found_at f at = found_in f.found.items at
 
 -- each path that is ready is sound; the first row has this place
 abbrev pub is_sound_row : Findings → ℕ → Placed → Bool
@@ -91,6 +60,10 @@ creates_of_rows s f at (row ∷ rows) = creates_of s f at row ++ creates_of_rows
 -- the create of the path at a place, where it may begin and a lane at home fits it
 abbrev pub fitting_at : List (List ℕ × List ℕ) → StackState → Layout → Findings → ℕ → Option Start
 fitting_at homes s l f at = option_and_then (λ row. find (fits_one homes) (creates_of s f at row)) (slice_get l.rows.items at)
+
+-- and that of the path of the name of a rank
+abbrev pub fitting_ranked : List (List ℕ × List ℕ) → StackState → Layout → Findings → ℕ → Option Start
+fitting_ranked homes s l f rank = option_and_then (λ p. fitting_at homes s l f p.1) (slice_get l.places rank)
 
 -- the first of them in the order of names that have places
 abbrev pub or_fitting : List (List ℕ × List ℕ) → StackState → Layout → Findings → Option Start → ℕ → Option Start

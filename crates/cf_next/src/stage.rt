@@ -190,19 +190,22 @@ fn dues_on(
     dues
 }
 
-/// Whether the operation of this number goes forward.
-fn is_forward(world: &World, number: u64) -> bool {
+/// Whether the operation of this number goes forward, or rolls a creation back.
+fn is_looked_at(world: &World, number: u64) -> bool {
     match world.stack_of_operation(number) {
-        Some(going) => goes_forward(going.1.status()),
+        Some(going) => {
+            let status = going.1.status();
+            goes_forward(status) || matches!(status, Status::RollbackInProgress)
+        }
         None => false,
     }
 }
 
-/// Works out beforehand what an operation that goes forward will look up.
+/// Works out beforehand what an operation that goes forward, or rolls a creation back, will look up.
 pub(crate) fn look_ahead(alloc: Global, world: &mut World, number: u64) -> Result<(), AllocError>
     ensures { world.new ≡ world.old }
 {
-    if is_forward(world, number) {
+    if is_looked_at(world, number) {
         world.look(alloc, number)
     } else {
         Ok(())

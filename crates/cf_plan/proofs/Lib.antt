@@ -3,7 +3,7 @@ pub mod PlanTerms
 pub mod StatesDone
 pub mod StatesRead
 pub mod StatesOpen
-mod NoneNested
+pub mod NoneNested
 pub mod CreatedStays
 pub mod CreatedRight
 pub mod CreatedWhole

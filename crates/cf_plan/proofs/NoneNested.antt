@@ -1,5 +1,6 @@
 -- Where the shape of a source has no nested stack, what the source wants has none.
-use Rattle.std.proofs.Common.{◌≡◌, Bool, false, List, [], ◌∷◌, Some, None, map, refl, ap, sym, ◌∙◌, subst}
+use Rattle.std.proofs.Common.{◌≡◌, Bool, false, List, [], ◌∷◌, Option, Some, None, map, refl, ap, sym, ◌∙◌, subst}
+use Rattle.std.specs.Option.{option_map_or}
 use Rattle.cf_tree.specs.declared.source.Source.{Source}
 use Rattle.cf_desired.specs.Kept.{IsShape}
 use Rattle.cf_desired.specs.Plan.{plan_by}
@@ -8,6 +9,7 @@ use Rattle.cf_desired.specs.Shape.{shape_of}
 use Rattle.cf_desired.specs.Valued.{nestings_in}
 use Rattle.cf_desired.specs.Work.{Body}
 use Rattle.cf_desired.specs.declared.shape.Shape as kept
+use Rattle.cf_effect.specs.Ahead.{nestings_of}
 use Rattle.cf_effect.specs.Begin.{seen_in}
 use Rattle.cf_effect.specs.End.{seen_now}
 use Rattle.cf_effect.specs.Outset.{Outset}
@@ -36,3 +38,9 @@ none_here s o shape r is going before h e =
 -- where it set out with none
 pub none_there : (s : StackState) → None ≡ s.going → (plan_now s).nested ≡ []
 none_there s going = ap (λ g. (plan_in g (seen_in s.before) (seen_now s)).nested) (sym going)
+
+pub none_by : (s : StackState) → nestings_of s ≡ [] → (plan_now s).nested ≡ []
+none_by s e = by s.going e where
+  by : (o : Option Source) → option_map_or (λ source. nestings_in (shape_of source (seen_in s.before))) o [] ≡ [] → (plan_in o (seen_in s.before) (seen_now s)).nested ≡ []
+  by None h = refl
+  by (Some source) h = none_in source (seen_in s.before) (seen_now s) h

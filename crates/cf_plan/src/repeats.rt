@@ -37,6 +37,9 @@ pub fn may_repeat(out: &[u64], stack: &StackState, pending: &Pending) -> bool
 fn has_call_in_flight(out: &[u64], calls: &[Call]) -> bool
     ensures { result ≡ list_any (λ c. is_in_flight out.now c.token) calls.now }
 {
+    if out.is_empty() {
+        return false;
+    }
     calls.iter().any(|call| is_in_flight(out, call.token))
 }
 
@@ -58,6 +61,9 @@ fn is_repeated(call: &Call) -> bool
 fn has_repeat_in_flight(out: &[u64], calls: &[Call]) -> bool
     ensures { result ≡ list_any (λ c. is_in_flight out.now c.token && is_repeated c) calls.now }
 {
+    if out.is_empty() {
+        return false;
+    }
     calls
         .iter()
         .any(|call| is_in_flight(out, call.token) && is_repeated(call))

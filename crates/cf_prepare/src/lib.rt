@@ -21,4 +21,5 @@ mod work;
 pub use held::held_of;
 pub use laws::{first_deployment, used_suffice};
 pub use preparing::prepare;
+pub use refusals::status_refusal;
 pub use wish::{Order, PrepareFault, StackFault, Wish};

@@ -45,12 +45,27 @@ fn test_status(lets: bool, status: Status) -> Result<(), PrepareFault>
     }
 }
 
+/// Why nothing is deployed to the stack of a name, by its status: it is created where nothing is left of it, and updated from
+/// CREATE_COMPLETE, UPDATE_COMPLETE and UPDATE_ROLLBACK_COMPLETE. It takes no memory.
+pub fn status_refusal(world: &World, name: &Txt) -> Option<PrepareFault>
+    ensures { result ≡ if_barred deploys_from (known_stack name.now world.now.world) }
+{
+    let status = status_of(world, name);
+    if deploys_from(status) {
+        None
+    } else {
+        Some(refused(StackFault::WrongStatus { status }))
+    }
+}
+
 /// Refuses a stack that is neither created nor updated from its status.
 pub(crate) fn test_deploys(world: &World, name: &Txt) -> Result<(), PrepareFault>
     ensures { TestsAs (if_barred deploys_from (known_stack name.now world.now.world)) (λ _. ⊤) result }
 {
-    let status = status_of(world, name);
-    test_status(deploys_from(status), status)
+    match status_refusal(world, name) {
+        None => Ok(()),
+        Some(fault) => Err(fault),
+    }
 }
 
 /// Refuses a stack that is not deleted from its status.

@@ -122,14 +122,14 @@ impl Table {
         self.stage = Stage::new(memory.alloc);
     }
 
-    /// Plays `COMMAND ; OTHER`, a command whose disk stops, at each of its calls in turn.
+    /// Plays `COMMAND ; OTHER ; OTHER ..`, a command whose disk stops, at each of its calls in turn, and the others behind it.
     fn play_stops(&mut self, memory: &mut Memory, commands: &str) {
-        let (command, other) = commands.split_once(" ; ").unwrap_or((commands, ""));
+        let (command, others) = commands.split_once(" ; ").unwrap_or((commands, ""));
         let play = Play {
             shelf: &self.shelf,
             past: self.past.as_slice(),
             command,
-            other,
+            others,
         };
         self.stage.stops = Stops::play(memory, &play);
     }

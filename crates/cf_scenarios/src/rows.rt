@@ -40,6 +40,7 @@ impl Stage {
         match head {
             "stop" => self.stops.add_given(line, rest),
             "stops" => self.stops.add_ends(line),
+            "ends" => self.stops.add_live(line, rest),
             "faults" => add_faults(line, self.scenario.lanes(), rest),
             "lanes" => add_names(line, self.scenario.lanes()),
             "types" => add_types(memory, line, self.scenario.lanes()),

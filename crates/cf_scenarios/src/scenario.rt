@@ -24,9 +24,9 @@ const LEAST_ROOM: u64 = 16;
 const MOST_ROOM: u64 = 4_294_967_296;
 
 /// How many calls of a disk can be noted, and how many written bytes.
-const MOST_CALLS: u64 = 2_000;
+const MOST_CALLS: u64 = 32_768;
 
-const MOST_WRITTEN: u64 = 200_000;
+const MOST_WRITTEN: u64 = 4_194_304;
 
 /// Where a journal's first gate is, and the bytes of a frame around its body: a gate and the body's length.
 const FIRST_GATE: u64 = 9;

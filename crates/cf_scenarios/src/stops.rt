@@ -6,10 +6,17 @@ use crate::words::{Line, cut, number_of};
 use cf_rows::Memory;
 use std::alloc::Global;
 
+/// What came of a stop: what is told of it, and what is live behind what was done then.
+#[derive(Drop)]
+struct Stop {
+    told: String,
+    live: String,
+}
+
 /// What came of the stops at each call, and how many of them were compared.
 #[derive(Drop)]
 pub struct Stops {
-    found: Vec<String>,
+    found: Vec<Stop>,
     compared: u64,
 }
 
@@ -21,8 +28,8 @@ pub struct Play<'a> {
     pub past: &'a [String],
     /// The command that is stopped.
     pub command: &'a str,
-    /// What is done behind, with a disk that goes on.
-    pub other: &'a str,
+    /// What is done behind, with a disk that goes on: commands, cut at ` ; `.
+    pub others: &'a str,
 }
 
 impl Stops {
@@ -82,11 +89,24 @@ impl Stops {
     fn other(&self, first: u64, last: u64, wanted: &str) -> Option<(u64, &String)> {
         for (at, found) in self.found.iter().enumerate() {
             let at = at as u64;
-            if first <= at && at <= last && found.as_str() != wanted {
-                return Some((at, found));
+            if first <= at && at <= last && found.told.as_str() != wanted {
+                return Some((at, &found.told));
             }
         }
         None
+    }
+
+    /// Adds what is live behind each stop and what was done then, where it is the same of all of them; else the first that is not what the
+    /// row says.
+    pub fn add_live(&self, line: &mut Line, row: &str) {
+        for (at, found) in self.found.iter().enumerate() {
+            if found.live.as_str() != row {
+                line.number(at as u64);
+                line.word(found.live.as_str());
+                return;
+            }
+        }
+        line.put(row);
     }
 
     /// Adds how many stops there are, and how many of them were compared.
@@ -113,18 +133,20 @@ impl<'a> Play<'a> {
     }
 
     /// What came of the command where the disk stops after so many calls; None where it is not stopped.
-    fn stopped(&self, memory: &mut Memory, whole: &Scenario, fuse: u64) -> Option<String> {
+    fn stopped(&self, memory: &mut Memory, whole: &Scenario, fuse: u64) -> Option<Stop> {
         let mut stopped = self.played(memory, fuse);
-        let told = if stopped.ran.exit == whole.ran.exit {
+        let found = if stopped.ran.exit == whole.ran.exit {
             None
         } else {
-            Some(self.told(memory, whole, &mut stopped))
+            let told = self.told(memory, whole, &mut stopped);
+            let live = live_of(memory, &stopped);
+            Some(Stop { told, live })
         };
         drop(stopped);
-        told
+        found
     }
 
-    /// What came of a stop: how many of the entries and calls of the whole run there are, and what the other command prints.
+    /// What came of a stop: how many of the entries and calls of the whole run there are, and what the other commands print.
     fn told(&self, memory: &mut Memory, whole: &Scenario, stopped: &mut Scenario) -> String {
         let mut line = Line::new(memory.alloc);
         stopped.ran.printed.join(&mut line);
@@ -141,15 +163,30 @@ impl<'a> Play<'a> {
         line.finish(memory)
     }
 
-    /// Does the other command, and tells it.
+    /// Does the other commands, and tells them.
     fn go_on(&self, memory: &mut Memory, line: &mut Line, stopped: &mut Scenario) {
         line.number(stopped.ran.entries.len() as u64);
         line.put(" entries, ");
         line.number(count(stopped.ran.calls.as_slice()));
         line.put(" calls: ");
-        stopped.act(memory, self.shelf, ">", self.other);
-        stopped.ran.printed.join(line);
+        for (at, other) in self.others.split(" ; ").enumerate() {
+            if at > 0 {
+                line.put(" | ");
+            }
+            stopped.act(memory, self.shelf, ">", other);
+            stopped.ran.printed.join(line);
+        }
     }
+}
+
+/// What is live, with ` | ` between any two; `none` where nothing is.
+fn live_of(memory: &mut Memory, scenario: &Scenario) -> String {
+    let mut line = Line::new(memory.alloc);
+    if scenario.ran.live.len() == 0 {
+        line.put("none");
+    }
+    scenario.ran.live.join(&mut line);
+    line.finish(memory)
 }
 
 /// Whether the calls of each lane are the first ones of others.

@@ -15,4 +15,3 @@ pub mod Stepped
 pub mod Stood
 pub mod Totals
 pub mod Worlds
-pub mod Kept

@@ -5,7 +5,8 @@ use Rattle.cf_stacks.specs.declared.room.CallRoom.{CallRoom}
 use Rattle.cf_stacks.specs.declared.stack.StackState.TheInside.{Inside}
 use Rattle.cf_stacks.specs.Room.{StackStanding}
 use Rattle.cf_stacks.specs.Spare.{HaveOwnTokens, IsRoomFor}
-use Rattle.cf_effect.specs.Findings.{AreFindings}
+use Rattle.cf_effect.specs.Ahead.{AreKept}
+use Rattle.cf_effect.specs.Undoing.{IsUndoing}
 use Rattle.cf_effect.specs.Reserve.{HasSpare}
 use Rattle.cf_effect.specs.State.{state_of}
 
@@ -26,4 +27,5 @@ pub record IsStacked (i : Inside) : Type 0 where
   pub room : vec_len i.rooms + i.spare ≤ vec_capacity i.rooms
   pub rooms : AllByRecursion (IsRoomFor (state_of i.state)) i.rooms.items
   pub apart : HaveOwnTokens i.state.tokens.items
-  pub findings : IfSome i.findings (AreFindings (state_of i.state))
+  pub findings : IfSome i.findings (AreKept (state_of i.state))
+  pub undoing : IfSome i.undoing (IsUndoing (state_of i.state))

@@ -9,10 +9,10 @@ mod standing;
 mod world;
 
 pub use cf_effect::{
-    Abandoned, Call, Findings, Found, GivenUp, HeardEntries, HeardEntry, Held, HeldStatus, Helds,
-    KeptSet, KeptSets, Layout, Ledger, Leftover, Leftovers, Lines, Output, Outputs, Outset,
-    Pending, Pendings, Placed, Settled, Terms, begun, call_with, current_at, is_in_progress,
-    seen_in, source_for,
+    Abandoned, Ahead, Call, Findings, Found, GivenUp, HeardEntries, HeardEntry, Held, HeldStatus,
+    Helds, KeptSet, KeptSets, Layout, Ledger, Leftover, Leftovers, Lines, Output, Outputs, Outset,
+    Pending, Pendings, Placed, Settled, Terms, Undoing, Way, begun, call_with, current_at,
+    is_in_progress, seen_in, source_for,
 };
 pub use laws::{awaited_stays, repeat_is_awaited, room_stays, stay_apart};
 pub use stack::{StackState, Stacks};

@@ -1,6 +1,7 @@
 //! A stack, as a journal's entries leave it.
 ghost use Rattle.std.specs.Prelude.{◌≡◌, ◌≤◌, ◌+◌, ◌-◌, ◌∷◌, ◌++◌, [], List, ℕ, IfOk, IfSome, None, OnErr, OnOk, Some, is_some, length, map, option_copied, slice_get, true};
 ghost use Rattle.cf_desired.specs.Work.{Member};
+ghost use Rattle.cf_effect.specs.Ahead.{AreKept};
 ghost use Rattle.cf_effect.specs.Calls.{new_call};
 ghost use Rattle.cf_effect.specs.Effect.{on_stack};
 ghost use Rattle.cf_effect.specs.Findings.{AreFindings, FindsAt};
@@ -8,6 +9,7 @@ ghost use Rattle.cf_effect.specs.Fold.{effect_at, is_opening};
 ghost use Rattle.cf_effect.specs.Layout.{IsLayoutOf, source_members};
 ghost use Rattle.cf_effect.specs.End.{seen_now};
 ghost use Rattle.cf_effect.specs.Reply.{intending, terms_at};
+ghost use Rattle.cf_effect.specs.Undoing.{IsUndoing};
 ghost use Rattle.cf_effect.specs.Bounds.{IsShortOutcomeOf};
 ghost use Rattle.cf_stacks.specs.Room.{StackStanding, calls_after, has_call, with_awaited, without_awaited};
 ghost use Rattle.cf_stacks.specs.Spare.{HaveOwnTokens, IsRoomFor, KeepsCalls};
@@ -24,8 +26,9 @@ use crate::room::{
 use cf_desired::Seen;
 use cf_effect::{
     Abandoned, Call, Findings, Found, HeardEntries, HeardEntry, Held, Helds, KeptSets, Layout,
-    Ledger, Leftovers, Lines, Outset, Pending, Pendings, State, Terms, find_at, findings_of,
-    follow, is_open, layout_of, look,
+    Ledger, Leftovers, Lines, Outset, Pending, Pendings, State, Terms, Undoing, find_at,
+    findings_of, follow, follow_call, follow_deletion, follow_try, is_open, layout_of, look,
+    look_back,
 };
 use cf_entry::{Entry, Status};
 use cf_export::Outputs;
@@ -41,8 +44,10 @@ pub struct StackState {
     state: State,
     rooms: Vec<CallRoom>,
     spare: usize,
-    /// What is kept of the paths of its operation's source, where that was looked at.
+    /// What is kept of the paths of its operation's source, where that was looked at, and which are ready, while a creation goes forward.
     findings: Option<Findings>,
+    /// Which of its resources may be deleted, while a creation is rolled back.
+    undoing: Option<Undoing>,
 }
 
 impl Model for StackState {
@@ -82,6 +87,13 @@ fn lose(findings: &mut Option<Findings>)
     drop(mem::replace(findings, None));
 }
 
+/// Lets go what is kept of a rollback that may be right no longer.
+fn lose_undoing(undoing: &mut Option<Undoing>)
+    ensures { undoing.new ≡ None }
+{
+    drop(mem::replace(undoing, None));
+}
+
 impl StackState {
     /// The stack with these numbers and lists; it takes no memory.
     pub(crate) fn of(alloc: Global, state: State) -> StackState
@@ -94,6 +106,7 @@ impl StackState {
             rooms: Vec::new(alloc),
             spare: 0,
             findings: None,
+            undoing: None,
         }
     }
 
@@ -167,6 +180,7 @@ impl StackState {
         drop(mem::replace(&mut self.state, state));
         self.spare = 0;
         lose(&mut self.findings);
+        lose_undoing(&mut self.undoing);
     }
 
     /// Leaves the stack so, with none of its calls awaited any more; it takes no memory.
@@ -179,6 +193,7 @@ impl StackState {
         drop(mem::replace(&mut self.state, state));
         self.spare = 0;
         lose(&mut self.findings);
+        lose_undoing(&mut self.undoing);
     }
 
     /// A call is awaited no more.
@@ -237,6 +252,7 @@ impl StackState {
         self.state.open(place, entry);
         self.spare -= 1;
         lose(&mut self.findings);
+        lose_undoing(&mut self.undoing);
     }
 
     /// A call goes out, of which the stack hears; it takes no memory.
@@ -250,6 +266,8 @@ impl StackState {
             line,
             room,
         } = parts;
+        follow_try(&self.state, call.number, &pending, &mut self.undoing);
+        follow_call(&pending, &entry, &mut self.findings);
         self.state.intend(pending, call);
         self.state.hear(HeardEntry::new(entry), Some(line));
         self.spare -= 2;
@@ -273,6 +291,7 @@ impl StackState {
     {
         match take_room(&mut self.rooms, token) {
             Some(room) => {
+                follow_deletion(&self.state, &entry, &mut self.undoing);
                 follow(&self.state, &entry, &mut self.findings);
                 take_outcome(&mut self.state, place, entry, room);
             }
@@ -404,9 +423,17 @@ impl StackState {
 
     /// What is kept of the paths of that source, where that was looked at.
     pub fn findings(&self) -> Option<&Findings>
-        ensures { IfSome (option_copied result) (AreFindings self.now.stack) }
+        ensures findings { IfSome (option_copied result) (AreFindings self.now.stack) }
+        ensures kept { IfSome (option_copied result) (AreKept self.now.stack) }
     {
         self.findings.as_ref()
+    }
+
+    /// What is kept of its rollback, where that was looked at.
+    pub fn undoing(&self) -> Option<&Undoing>
+        ensures { IfSome (option_copied result) (IsUndoing self.now.stack) }
+    {
+        self.undoing.as_ref()
     }
 
     /// Findings of it, of which nothing is worked out yet.
@@ -439,12 +466,17 @@ impl StackState {
         find_at(alloc, &self.state, findings, at)
     }
 
-    /// Works out what the properties of each path come to all of whose needs have a resource, where
-    /// that is not known yet. After an error some of it may be worked out.
+    /// Works out what the properties of each path come to all of whose needs have a resource, and which
+    /// paths are ready while a creation goes forward; or which of its resources may be deleted, while a
+    /// creation is rolled back; where that is not known yet. After an error some of it may be worked out.
     pub(crate) fn look(&mut self, alloc: Global) -> Result<(), AllocError>
         ensures { self.new ≡ self.old }
     {
-        look(alloc, &self.state, &mut self.findings)
+        if matches!(self.state.status, Status::RollbackInProgress) {
+            look_back(alloc, &self.state, &mut self.undoing)
+        } else {
+            look(alloc, &self.state, &mut self.findings)
+        }
     }
 
     /// Its outputs.

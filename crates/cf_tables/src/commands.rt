@@ -2,7 +2,7 @@
 use crate::pieces::words_of;
 use crate::told::Told;
 use cf_face::{Command, read_words, read_workers};
-use cf_tree::{Pairs, Txt};
+use cf_tree::{Names, Pairs, Txt};
 
 /// What the words of a line ask for. Words are cut at each space; an empty line has none.
 pub fn command_line(told: &mut Told, line: &str) {
@@ -26,6 +26,8 @@ fn command_text(told: &mut Told, command: &Command) {
             template,
             given,
         } => deployment(told, stack, template, given),
+        Command::ContinueRollback { stack, paths } => continuation(told, stack, paths),
+        Command::Resume { stack } => told.named("resume ", stack),
         Command::Describe { stack } => told.named("describe ", stack),
         Command::Validate { template } => told.named("validate ", template),
     }
@@ -38,6 +40,14 @@ fn deployment(told: &mut Told, stack: &Txt, template: &Txt, given: &Pairs) {
     for pair in given.as_slice() {
         told.word(pair.0.as_str());
         told.named("=", &pair.1);
+    }
+}
+
+/// A continued rollback, with the paths in the order of the words.
+fn continuation(told: &mut Told, stack: &Txt, paths: &Names) {
+    told.named("continue-rollback ", stack);
+    for path in paths.as_slice() {
+        told.named(" ", path);
     }
 }
 

@@ -14,7 +14,7 @@ use cf_rows::Memory;
 use cf_template::read_template;
 use cf_tree::{Code, Names};
 
-/// The number and the name of an exit, and the line that is printed, without the line feed at its end.
+/// The number and the name of an exit, and the lines that are printed, without the line feed at their end.
 pub fn exit_line(told: &mut Told, row: &str, words: &str) {
     let (name, fields) = cut(row);
     match exit_of(&mut told.memory, name, fields, words) {
@@ -43,7 +43,20 @@ fn push_exit(told: &mut Told, exit: &Exit, bytes: &[u8]) {
     told.number(exit.number() as u64);
     told.word(exit.name());
     told.put(": ");
-    told.put(text.strip_suffix('\n').unwrap_or("no line"));
+    match text.strip_suffix('\n') {
+        Some(lines) => put_lines(told, lines),
+        None => told.put("no line"),
+    }
+}
+
+/// Adds lines with ` | ` between them.
+fn put_lines(told: &mut Told, lines: &str) {
+    for (at, line) in lines.split('\n').enumerate() {
+        if at > 0 {
+            told.put(" | ");
+        }
+        told.put(line);
+    }
 }
 
 /// The exits of printing two texts, and what the sink then holds; its call of a number may fail.

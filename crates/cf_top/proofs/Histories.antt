@@ -1,5 +1,5 @@
 -- In a history disk and lanes agree at each moment.
-use Rattle.std.proofs.Common.{◌≡◌, inl, inr, ℕ, List, [], ◌∷◌, Some, Ok, map, refl, sym, ◌∙◌, ap, subst}
+use Rattle.std.proofs.Common.{◌≡◌, inl, inr, List, [], ◌∷◌, Ok, map, sym, subst}
 use Rattle.std.specs.Bool.{IsTrue}
 use Rattle.cf_tree.specs.Lists.{In}
 use Rattle.cf_disk.specs.declared.disk.Disk.{Ghosts as DiskGhosts}
@@ -15,7 +15,7 @@ use Rattle.cf_core.specs.Theorem.{HoldsAlways}
 use Rattle.cf_core.proofs.Always.{event_holds, holds_keeps_promises, starts_hold}
 use Rattle.cf_workers.specs.Agreement.{AgreeOn, EachAgrees, KeepsAgreement, at_rest}
 use Rattle.cf_top.proofs.Kept.{command_agrees}
-use Rattle.cf_top.specs.History.{HistoriesAgree, IsHistory, IsNew, Moment, NewAgrees, Passes}
+use Rattle.cf_top.specs.History.{HistoriesAgree, IsHistory, Moment, NewAgrees, Passes}
 
 -- where what always holds does, the promises are kept
 agreed : (schemas : List Schema) (es : List Entry) (all : List Lane) → HoldsAlways schemas (at_rest es all) → AgreeOn schemas es all

@@ -1,42 +1,41 @@
 -- What each answer of a command keeps: the lanes' names and types, that disk and lanes agree, and what a crash may leave of the journal.
-use Rattle.std.proofs.Common.{◌≡◌, ◌⊎◌, inl, inr, ℕ, ◌+◌, List, [], ◌∷◌, ◌++◌, Option, Some, None, Result, Ok, Err, map, refl, sym, ◌∙◌, ap, subst}
+use Rattle.std.proofs.Common.{◌≡◌, ◌⊎◌, inl, inr, ℕ, List, [], ◌∷◌, ◌++◌, Option, Some, None, Result, Ok, Err, map, refl, sym, ◌∙◌, ap, subst}
 use Rattle.std.specs.Bool.{IsTrue}
-use Rattle.cf_disk.specs.Disk.{Only}
 use Rattle.cf_disk.specs.declared.disk.Disk.{Ghosts as DiskGhosts}
 use Rattle.cf_handler.specs.declared.handler.Handler.{Ghosts as HandlerGhosts}
 use Rattle.cf_handler.specs.declared.fence.FenceAnswer.TheVariants as fence
 use Rattle.cf_entry.specs.declared.entry.Entry.{Entry}
 use Rattle.cf_entry.specs.declared.entry.Reply.{Reply}
 use Rattle.cf_entry.specs.declared.status.Status.{Status}
-use Rattle.cf_journal.specs.Record.{IsOldOrKept, KeepsRecord, record_of}
+use Rattle.cf_journal.specs.Record.{record_of}
 use Rattle.cf_schema.specs.declared.described.Schema.{Schema}
 use Rattle.cf_effect.specs.World.{StackState}
-use Rattle.cf_lane.specs.Lanes.{LaneNow}
-use Rattle.cf_prepare.specs.declared.wish.Order.TheVariants.{Begin}
+use Rattle.cf_prepare.specs.declared.wish.Order.{Order}
+use Rattle.cf_prepare.specs.declared.wish.Order.TheVariants as order
 use Rattle.cf_book.specs.Beginning.{BeginsOrder}
 use Rattle.cf_book.specs.Entering.{IsUntouched, RefusesAs, opened_over}
 use Rattle.cf_book.specs.Events.{outcome_by, reply_for}
 use Rattle.cf_book.specs.Fences.{handed_in}
-use Rattle.cf_book.specs.Record.{HasKnown, KnowsDisk, world_left}
-use Rattle.cf_book.specs.State.{BookLane, BookNow}
+use Rattle.cf_book.specs.Record.{HasKnown}
+use Rattle.cf_book.specs.State.{BookNow}
 use Rattle.cf_book.specs.declared.refused.EnterFault.{EnterFault}
 use Rattle.cf_book.specs.declared.refused.EnterFault.TheVariants as fault
 use Rattle.cf_book.specs.declared.stop.StopFault.{StopFault}
 use Rattle.cf_book.specs.declared.stop.StopFault.TheVariants as stop
-use Rattle.cf_face.specs.declared.words.Choice.{Choice}
+use Rattle.cf_face.specs.declared.words.Task.{Task}
 use Rattle.cf_face.specs.declared.exit.Exit.{Exit}
 use Rattle.cf_face.specs.declared.exit.Exit.TheVariants as exit
-use Rattle.cf_workers.specs.declared.drive.Drove.TheVariants.{Stopped}
 use Rattle.cf_workers.specs.Agreement.{KeepsAgreement}
-use Rattle.cf_top.specs.Alone.{AloneTells, Comes, EndsEarly, IsAnswered, IsDeployed, Says}
-use Rattle.cf_top.specs.Answer.{KeepsAll, RanAs}
-use Rattle.cf_top.specs.Crash.{IsAsBefore, LeavesAs, MayDoubt, Survives}
+use Rattle.cf_top.specs.Alone.{AloneTells, Comes, EndsEarly, Says}
+use Rattle.cf_top.specs.Answer.{RanAs}
+use Rattle.cf_top.specs.Crash.{WroteNothing, CrashLeaves, MayDoubt}
 use Rattle.cf_workers.specs.Growing.{Extends}
-use Rattle.cf_top.specs.Deployment.{CreatesAs, DeploysAs, ExitsFor, RunsTo, create_entry}
-use Rattle.cf_workers.specs.Driving.{CouldNotWrite, LacksOutcome, Stops, StopsAfter, StopsBefore}
+use Rattle.cf_top.specs.Ends.{HasEnded}
+use Rattle.cf_top.specs.Performed.{DoesTask, ExitsFor}
+use Rattle.cf_workers.specs.Driving.{CouldNotWrite, LacksOutcome, Stops}
 use Rattle.cf_top.specs.History.{IsCommand}
 use Rattle.cf_top.specs.Opening.{enter_exit}
-use Rattle.cf_top.specs.Outside.{CameTo, HasEntered, IsClosed, NothingTouched, Outside, Printed, Printing, WasDeployed, WasRefused}
+use Rattle.cf_top.specs.Outside.{CameTo, HasEntered, IsClosed, Outside, Printed, Printing, WasDone}
 use Rattle.cf_top.specs.Telling.{outcome_exit}
 use Rattle.cf_workers.proofs.Commanded.{named_as}
 use Rattle.cf_workers.proofs.Crashes.{extends_itself, extends_on}
@@ -55,7 +54,7 @@ module _ {D H : Type 0} (g : DiskGhosts D) (h : HandlerGhosts H) where
   KeepsAgreed m = KeepsAgreement g h m.disk m.handlers m.disk' m.handlers'
 
   abbrev pub LeavesIt : Outside D H → Exit → Type 0
-  LeavesIt m e = LeavesAs (g.seen m.disk) (g.seen m.disk') (g.may_leave m.disk) (g.may_leave m.disk') e
+  LeavesIt m e = CrashLeaves (g.seen m.disk) (g.seen m.disk') (g.may_leave m.disk) (g.may_leave m.disk') e
 
   -- all that is kept, whatever the answer
   pub record IsKept (m : Outside D H) (e : Exit) : Type 0 where
@@ -64,7 +63,7 @@ module _ {D H : Type 0} (g : DiskGhosts D) (h : HandlerGhosts H) where
     pub leaves : IsTrue g.tells → LeavesIt m e
 
   -- no lane is called, and what a crash may leave keeps the record
-  kept_before : (m : Outside D H) (e : Exit) → m.handlers' ≡ m.handlers → (IsTrue g.tells → IsAsBefore (g.seen m.disk) (g.seen m.disk') (g.may_leave m.disk) (g.may_leave m.disk')) → IsKept m e
+  kept_before : (m : Outside D H) (e : Exit) → m.handlers' ≡ m.handlers → (IsTrue g.tells → WroteNothing (g.seen m.disk) (g.seen m.disk') (g.may_leave m.disk) (g.may_leave m.disk')) → IsKept m e
   kept_before m e quiet keeps = record {
     same = ap (λ (hs : List H). map named_as (handed_in h hs)) quiet;
     agrees = λ stay. subst (KeepsAgreement g h m.disk m.handlers m.disk') (sym quiet) (keeps_untouched g h m.disk m.disk' m.handlers stay (λ tells. (keeps tells).each));
@@ -149,26 +148,28 @@ module _ {D H : Type 0} (g : DiskGhosts D) (h : HandlerGhosts H) where
     by (Some r) w = doubt_of (a.1).lent.disk old new (outcome_by (a.0).told r) f x q w
     by None w = inr w.0
 
-  doubt_begun : (old new : BookNow D) (e : Entry) (f : StopFault) (x : Exit) → old.doubt ≡ None → ExitsFor new.lanes f x → BeginsOrder g old new (Begin e) (Err f) → MayDoubt x ⊎ (new.doubt ≡ None)
-  doubt_begun old new e (stop.Full l need room) x none q w = inr (w.0.1.1 ∙ none)
-  doubt_begun old new e stop.DiskFault x none q w = inl (subst MayDoubt (sym q) tt)
-  doubt_begun old new e (stop.LaneAhead place fe epoch) x none q w = absurd w.0.1
-  doubt_begun old new e stop.NoMemory x none q w = inr (w.0.2 ∙ none)
+  doubt_begun : (old new : BookNow D) (ordered : Order) (f : StopFault) (x : Exit) → old.doubt ≡ None → ExitsFor new.lanes f x → BeginsOrder g old new ordered (Err f)
+      → MayDoubt x ⊎ (new.doubt ≡ None)
+  doubt_begun old new (order.Begin e) (stop.Full l need room) x none q w = inr (w.0.1.1 ∙ none)
+  doubt_begun old new (order.Begin e) stop.DiskFault x none q w = inl (subst MayDoubt (sym q) tt)
+  doubt_begun old new (order.Begin e) (stop.LaneAhead place fe epoch) x none q w = absurd w.0.1
+  doubt_begun old new (order.Begin e) stop.NoMemory x none q w = inr (w.0.2 ∙ none)
+  doubt_begun old new (order.Review e) f x none q w = absurd w
+  doubt_begun old new (order.Resume number) f x none q w = inr (w.1.doubt ∙ none)
 
-  doubt_deployed : (m : Outside D H) (name : List ℕ) (choice : Choice) (entered ended : BookNow D) (x : Exit) → entered.doubt ≡ None → DeploysAs g m.library entered ended name choice (Err x)
+  doubt_done : (m : Outside D H) (name : List ℕ) (t : Task) (entered ended : BookNow D) (x : Exit) → entered.doubt ≡ None → DoesTask g m.library entered ended name t (Err x)
       → MayDoubt x ⊎ (ended.doubt ≡ None)
-  doubt_deployed m name choice entered ended x none (inl (refused, still)) = inr (still.0.doubt ∙ none)
-  doubt_deployed m name choice entered ended x none (inr (source, found, (f, exits, inl (begins, lanes, known)))) =
-      doubt_begun entered ended (create_entry ((world_left entered.entries).operation + 1) name source) f x none exits begins
-  doubt_deployed m name choice entered ended x none (inr (source, found, (f, exits, inr (number, begun, is, (last, course, stops, disk))))) =
+  doubt_done m name t entered ended x none (inl (refused, still)) = inr (still.0.doubt ∙ none)
+  doubt_done m name t entered ended x none (inr (ordered, is, (f, exits, inl (begins, lanes, known)))) = doubt_begun entered ended ordered f x none exits begins
+  doubt_done m name t entered ended x none (inr (ordered, is, (f, exits, inr (number, begun, goes, (last, course, stops, disk, grows))))) =
       doubt_stopped number last ended f x exits stops
 
   -- the book was entered, and closed
-  pub kept_deployed : (m : Outside D H) (name : List ℕ) (choice : Choice) (entered ended : BookNow D) (result : Result Status Exit) (e : Exit)
-      → WasDeployed g h m name choice entered ended result → MayDoubt e ⊎ (ended.doubt ≡ None) → IsKept m e
-  kept_deployed m name choice entered ended result e w certain = by w.enters w.closes where
+  pub kept_done : (m : Outside D H) (name : List ℕ) (t : Task) (entered ended : BookNow D) (result : Result Status Exit) (e : Exit)
+      → WasDone g h m name t entered ended result → MayDoubt e ⊎ (ended.doubt ≡ None) → IsKept m e
+  kept_done m name t entered ended result e w certain = by w.enters w.closes where
     by : HasEntered g h m entered → IsClosed g h m ended → IsKept m e
-    by (es, over, enters, known, room) (disk_is, handlers_are, none, ended_known) = record {
+    by (es, over, enters, known, room, opens) (disk_is, handlers_are, none, ended_known) = record {
       same = same_handlers g h m.disk m.disk' m.handlers m.handlers' es entered ended over.0 enters w.stretch.leads w.stretch.lanes none disk_is handlers_are ended_known;
       agrees = λ stay.
           entered_agrees g h m.disk m.disk' m.handlers m.handlers' es entered ended over.0 enters w.stretch.leads w.stretch.lanes none disk_is handlers_are ended_known stay;
@@ -186,20 +187,20 @@ module _ {D H : Type 0} (g : DiskGhosts D) (h : HandlerGhosts H) where
       });
     }
 
-  kept_came : (m : Outside D H) (name : List ℕ) (choice : Choice) (outcome : Result StackState Exit) → CameTo g h m name choice outcome → IsKept m (outcome_exit outcome)
-  kept_came m name choice (Ok st) (entered, ended, status, was, stack, lasts) =
-      kept_deployed m name choice entered ended (Ok status) (outcome_exit (Ok st)) was (inr stack.rest.certain)
-  kept_came m name choice (Err e) (inl (f, refuses, is, unasked), none) = subst (IsKept m) (sym is) (kept_refused m f refuses)
-  kept_came m name choice (Err e) (inr (entered, ended, was), none) =
-      kept_deployed m name choice entered ended (Err e) e was
-      (doubt_deployed m name choice entered ended e (certain_of was.enters) was.deploys) where
+  kept_came : (m : Outside D H) (name : List ℕ) (t : Task) (outcome : Result StackState Exit) → CameTo g h m name t outcome → IsKept m (outcome_exit outcome)
+  kept_came m name t (Ok st) (entered, ended, status, was, stack, lasts) =
+      kept_done m name t entered ended (Ok status) (outcome_exit (Ok st)) was (inr stack.rest.certain)
+  kept_came m name t (Err e) (inl (f, refuses, is, unasked), none) = subst (IsKept m) (sym is) (kept_refused m f refuses)
+  kept_came m name t (Err e) (inr (entered, ended, was), none) =
+      kept_done m name t entered ended (Err e) e was
+      (doubt_done m name t entered ended e (certain_of was.enters) was.does) where
         certain_of : HasEntered g h m entered → entered.doubt ≡ None
-        certain_of (es, over, enters, known, room) = enters.certain
+        certain_of (es, over, enters, known, room, opens) = enters.certain
 
   kept_comes : (m : Outside D H) (words : List (List ℕ)) (stack : List ℕ) (outcome : Result StackState Exit) → Comes g h m words stack outcome → IsKept m (outcome_exit outcome)
   kept_comes m words stack outcome (inl (q, none, touched)) = kept_nothing m (outcome_exit outcome) touched.0 touched.1
   kept_comes m words stack outcome (inr (inl (q, touched))) = kept_nothing m (outcome_exit outcome) touched.0 touched.1
-  kept_comes m words stack outcome (inr (inr (choice, said, came))) = kept_came m stack choice outcome came
+  kept_comes m words stack outcome (inr (inr (t, said, came))) = kept_came m stack t outcome came
 
   -- what could not be printed may hide a fault of the disk
   doubtful : (m : Outside D H) (e x : Exit) → MayDoubt x → IsKept m e → IsKept m x
@@ -227,11 +228,11 @@ module _ {D H : Type 0} (g : DiskGhosts D) (h : HandlerGhosts H) where
     by (inr (inl (is, rose, a))) = doubtful m (outcome_exit outcome) result (subst MayDoubt (sym is) tt) k
     by (inr (inr (is, a))) = doubtful m (outcome_exit outcome) result (subst MayDoubt (sym is) tt) k
 
-  kept_over : (m : Outside D H) (p : Printing) (words : List (List ℕ)) (e : Exit) → IsDeployed g h m p words e → SameLanes m × (Stays g → KeepsAgreed m)
-  kept_over m p words e d = let k = kept_deployed m d.name d.choice d.entered d.ended (Ok d.status) exit.NoMemory d.was (inl tt) in (k.same, k.agrees)
+  kept_over : (m : Outside D H) (p : Printing) (words : List (List ℕ)) (e : Exit) → HasEnded g h m p words e → SameLanes m × (Stays g → KeepsAgreed m)
+  kept_over m p words e d = let k = kept_done m d.name d.what d.entered d.ended (Ok d.state) exit.NoMemory d.was (inl tt) in (k.same, k.agrees)
 
   kept_early : (m : Outside D H) (p : Printing) (words : List (List ℕ)) (e : Exit) → EndsEarly g h m p words e → SameLanes m × (Stays g → KeepsAgreed m)
-  kept_early m p words e s = let k = kept_came m s.name s.choice (Err e) s.ran in (k.same, k.agrees)
+  kept_early m p words e s = let k = kept_came m s.name s.what (Err e) s.ran in (k.same, k.agrees)
 
   -- by what an answer says
   kept_says : (m : Outside D H) (p : Printing) (words : List (List ℕ)) (result : Exit) → Says g h m p words result → SameLanes m × (Stays g → KeepsAgreed m)

@@ -1,54 +1,46 @@
 -- What each answer of the top call says, from what its run came to.
-use Rattle.std.proofs.Common.{◌≡◌, ◌⊎◌, inl, inr, ℕ, suc, zero, ◌||◌, true≢false, Bool, true, false, ◌+◌, ◌≤◌, ◌<◌, ◌^◌, ◌-◌, List, [], ◌∷◌, ◌++◌, length, map, Option, Some, None, Result, Ok, Err, refl, sym, ap, ◌∙◌, subst, slice_index_or, arith}
+use Rattle.std.proofs.Common.{◌≡◌, ◌⊎◌, inl, inr, ℕ, suc, zero, ◌||◌, true≢false, Bool, true, false, ◌≤◌, ◌^◌, ◌-◌, cond, List, [], ◌∷◌, length, map, Option, Some, None, Result, Ok, Err, refl, sym, ap, ◌∙◌, subst, slice_index_or, arith}
 use Rattle.std.proofs.Math.Seq.{take-length}
 use Rattle.std.proofs.lemmas.Bool.Decides.{leb_tells}
-use Rattle.std.proofs.lemmas.Grind.{fold-append}
-use Rattle.std.specs.Prelude.{cond, option_map}
-use Rattle.cf_tree.specs.declared.template.Template.{Template}
-use Rattle.cf_template.specs.Refusals.{Reading}
-use Rattle.cf_template.specs.Whole.{template_of}
-use Rattle.cf_desired.specs.declared.flaw.Flaw.TheVariants.{TemplateMissing}
-use Rattle.cf_prepare.specs.Refusals.{deploy_refusal}
-use Rattle.cf_prepare.specs.declared.wish.PrepareFault.{PrepareFault}
-use Rattle.cf_prepare.specs.declared.wish.PrepareFault.TheVariants as prepare
-use Rattle.cf_face.specs.declared.exit.Refusal.TheVariants as refusal
-use Rattle.cf_top.specs.Crash.{Lasts, LastsWhereOver}
-use Rattle.cf_top.specs.NotYet.{is_not_yet}
-use Rattle.std.specs.Prelude.{not, ◌&&◌}
+use Rattle.std.specs.Prelude.{not, ◌&&◌, option_map}
 use Rattle.std.specs.Str.{bytes_eq}
-use Rattle.cf_tree.specs.Lists.{is_among}
-use Rattle.cf_tree.specs.Named.{all_differ}
-use Rattle.cf_tree.specs.declared.source.Source.{Source}
-use Rattle.cf_handler.specs.declared.fence.FenceAnswer.TheVariants as fence
-use Rattle.cf_entry.specs.declared.entry.Entry.TheVariants as entry
-use Rattle.cf_entry.specs.declared.entry.Reply.{Reply}
-use Rattle.cf_entry.specs.declared.entry.Reply.TheVariants as reply
-use Rattle.cf_effect.specs.Begin.{source_for}
-use Rattle.cf_lane.specs.Lanes.{LaneNow}
-use Rattle.cf_plan.proofs.Listed.{same_bytes}
-use Rattle.cf_prepare.specs.declared.wish.Order.TheVariants.{Begin}
-use Rattle.cf_book.specs.Beginning.{BeginsOrder}
-use Rattle.cf_book.specs.Events.{reply_for}
-use Rattle.cf_face.specs.declared.exit.StackFault.TheVariants.{WrongStatus}
-use Rattle.cf_workers.proofs.Agreeing.{rest_differs}
-use Rattle.cf_workers.proofs.Entered.{home_parts, raised_same}
-use Rattle.cf_workers.proofs.Wrote.{schemas_same}
 use Rattle.std.specs.Io.KnownBytes.{Appends}
 use Rattle.cf_tree.specs.Counts.{HasRisen}
-use Rattle.cf_tree.specs.Lists.{In}
+use Rattle.cf_tree.specs.Lists.{In, is_among}
 use Rattle.cf_tree.specs.Lists.In.{here, there}
+use Rattle.cf_tree.specs.Named.{all_differ}
 use Rattle.cf_disk.specs.declared.disk.Disk.{Ghosts as DiskGhosts}
+use Rattle.cf_handler.specs.declared.fence.FenceAnswer.TheVariants as fence
 use Rattle.cf_handler.specs.declared.handler.Handler.{Ghosts as HandlerGhosts}
 use Rattle.cf_schema.specs.declared.described.Schema.{Schema}
 use Rattle.cf_entry.specs.declared.entry.Entry.{Entry}
+use Rattle.cf_entry.specs.declared.entry.Entry.TheVariants as entry
+use Rattle.cf_entry.specs.declared.entry.Reply.{Reply}
+use Rattle.cf_entry.specs.declared.entry.Reply.TheVariants as reply
 use Rattle.cf_entry.specs.declared.status.Status.{Status}
 use Rattle.cf_entry.specs.declared.status.Status.TheVariants as status
 use Rattle.cf_entry.specs.declared.turn.Cause.{Cause}
 use Rattle.cf_entry.specs.declared.turn.Cause.TheVariants as cause
 use Rattle.cf_entry.specs.declared.turn.Reason.{Reason}
-use Rattle.cf_io.specs.Library.{Texts, text_named, StandsUnder}
-use Rattle.cf_effect.specs.World.{StackState, World, stack_at}
-use Rattle.cf_book.specs.Entering.{IsEntered, RefusesAs, epoch_over}
+use Rattle.cf_io.specs.Library.{StandsUnder, Texts, text_named}
+use Rattle.cf_effect.specs.World.{StackState, World, known_stack}
+use Rattle.cf_lane.specs.Lanes.{LaneNow}
+use Rattle.cf_plan.proofs.Listed.{same_bytes}
+use Rattle.cf_plan.specs.Follow.{lane_kinds}
+use Rattle.cf_core.specs.Turned.{reason_in, was_continued}
+use Rattle.cf_prepare.specs.Answer.{TestsAs}
+use Rattle.cf_prepare.specs.Orders.{IsContinuation}
+use Rattle.cf_prepare.specs.Prepare.{PreparesAs}
+use Rattle.cf_prepare.specs.Refusals.{continue_refusal, resume_refusal}
+use Rattle.cf_prepare.specs.Resuming.{IsFirstStuck}
+use Rattle.cf_prepare.specs.declared.wish.Order.{Order}
+use Rattle.cf_prepare.specs.declared.wish.Order.TheVariants as order
+use Rattle.cf_prepare.specs.declared.wish.PrepareFault.{PrepareFault}
+use Rattle.cf_prepare.specs.declared.wish.PrepareFault.TheVariants as prepare
+use Rattle.cf_prepare.specs.declared.wish.Wish.TheVariants as wish
+use Rattle.cf_book.specs.Beginning.{BeginsOrder}
+use Rattle.cf_book.specs.Entering.{RefusesAs, epoch_over}
+use Rattle.cf_book.specs.Events.{reply_for}
 use Rattle.cf_book.specs.Fences.{StopsRaising, handed_in}
 use Rattle.cf_book.specs.Record.{HasFaulted, world_left}
 use Rattle.cf_book.specs.State.{BookLane, BookNow, at_home}
@@ -57,25 +49,40 @@ use Rattle.cf_book.specs.declared.refused.EnterFault.TheVariants as fault
 use Rattle.cf_book.specs.declared.stop.StopFault.{StopFault}
 use Rattle.cf_book.specs.declared.stop.StopFault.TheVariants as stop
 use Rattle.cf_face.specs.declared.words.Choice.{Choice}
+use Rattle.cf_face.specs.declared.words.Task.{Task}
+use Rattle.cf_face.specs.declared.words.Task.TheVariants as task
 use Rattle.cf_face.specs.declared.exit.Exit.{Exit}
 use Rattle.cf_face.specs.declared.exit.Exit.TheVariants as exit
-use Rattle.cf_top.specs.Alone.{AloneTells, BlamesNone, Comes, ComesBefore, EndsEarly, EndsFor, EndsUnfailed, IsAnswered, IsCutShort, IsDeployed, IsExitOf, IsNoFailure, IsRefusal, IsRefusedOver, KeepsPromise, NoCountRose, RoseAt, Says, WroteCreation, counts_of, deploy_words, number_in, opened_world}
-use Rattle.cf_workers.specs.Driving.{AreSameLanes, LacksOutcome, Stops, name_and_schema}
-use Rattle.cf_top.specs.Deployment.{create_entry, DeploysAs, ExitsFor, IsRefusedFor, LibraryUse, RefusesBy, existing_status, schemas_in}
-use Rattle.cf_top.specs.Opening.{Holds, enter_exit}
-use Rattle.cf_top.specs.Outside.{CameTo, HasEntered, HaveAgreed, IsClosed, LeavesStack, Outside, Printed, Printing, WasDeployed, WasRefused}
-use Rattle.cf_top.specs.Refusals.{creation_refusal, deployed_source, exit_of_fault, template_refusal}
-use Rattle.cf_top.specs.Telling.{exit_at, exit_for, outcome_exit, outcome_text}
-use Rattle.cf_workers.specs.Turning.{HasFailedCall, HaveFailedCalls, IsCountedOn}
+use Rattle.cf_face.specs.declared.exit.Refusal.TheVariants as refusal
+use Rattle.cf_workers.specs.Driving.{LacksOutcome, Stops}
+use Rattle.cf_workers.specs.Turning.{IsCountedOn, cause_of}
+use Rattle.cf_workers.proofs.Agreeing.{rest_differs}
 use Rattle.cf_workers.proofs.Commanded.{named_as, same_names_now}
+use Rattle.cf_workers.proofs.Along.{same_entered}
+use Rattle.cf_workers.proofs.Wrote.{schemas_same}
+use Rattle.cf_top.specs.Alone.{AloneTells, Comes, ComesBefore, EndsEarly, IsAnswered, IsCutShort, IsExitOf, IsRefusal, IsRefusedAs, IsRefusedOver, NoCountRose, RoseAt, Says, counts_of, opened_world}
+use Rattle.cf_top.specs.Crash.{Lasts, LastsWhereOver}
+use Rattle.cf_top.specs.Ends.{BlamesNoCall, CallFailed, CountsWithin, EndsWithoutFailure, FailedAt, FailedBy, HadCause, HasEnded, IsNoFailure, IsUntold, TurnedBefore, TurnedNow}
+use Rattle.cf_top.specs.Opening.{enter_exit}
+use Rattle.cf_top.specs.Outside.{CameTo, HasEntered, IsClosed, Outside, Printed, Printing}
+use Rattle.cf_top.specs.Performed.{DoesTask, ExitsFor}
+use Rattle.cf_workers.specs.Ordering.{schemas_in, number_of}
+use Rattle.cf_top.specs.Refusals.{IsRefusedFor, LibraryUse, deployment_refusal, exit_of_fault}
+use Rattle.cf_top.specs.Tasks.{OrdersTask, RefusesDeployment, RefusesTask, status_refusal, task_words}
+use Rattle.cf_top.specs.Telling.{exit_by, exit_for, outcome_exit, outcome_text}
+use Rattle.cf_top.proofs.Course.{has_run}
+use Rattle.cf_top.proofs.Early.{IsAsked, RefusesEarly, asked_fault, asked_option, early}
+use Rattle.cf_top.proofs.Endings.{because, counted, here_now, number_is, operation_is, promise, state_is, wrote}
 use Rattle.cf_top.proofs.Kept.{Stays, kept_alone}
-use Rattle.cf_top.proofs.Promised.{because, has_run, promise, run_counted, same_behind, wrote}
-use Rattle.cf_workers.proofs.Wrote.{IsCounted, answer_as}
+use Rattle.cf_workers.proofs.Stuck.{one_stuck}
 
 some≢none : {A : Type 0} (x : A) → Some x ≡ None → ⊥
 some≢none x e = cc
 
--- Exits that a deployment comes to before its operation ends, or before it begins.
+some_inside : {A : Type 0} (x y : A) → Some x ≡ Some y → x ≡ y
+some_inside x y e = cc
+
+-- exits that a task comes to before its operation ends, or before it begins
 abbrev pub IsEarly : Exit → Type 0
 IsEarly exit.Done = ⊥
 IsEarly (exit.RolledBack cause) = ⊥
@@ -101,73 +108,32 @@ early_stopped lanes (stop.LaneAhead place f epoch) x (inl q) = subst IsEarly (sy
 early_stopped lanes (stop.LaneAhead place f epoch) x (inr (b, at, q)) = subst IsEarly (sym q) tt
 early_stopped lanes stop.NoMemory x q = subst IsEarly (sym q) tt
 
--- what is asked for is refused by one of these
-abbrev IsAsked : Exit → Type 0
-IsAsked (exit.TemplateRefused f) = Unit {0}
-IsAsked (exit.StackRefused f) = Unit {0}
-IsAsked exit.NoMemory = Unit {0}
-IsAsked _ = ⊥
-
-asked_fault : (f : PrepareFault) → IsAsked (exit_of_fault f)
-asked_fault (prepare.Plan flaw) = tt
-asked_fault (prepare.UnknownType path name) = tt
-asked_fault (prepare.Stack f) = tt
-asked_fault prepare.NoMemory = tt
-
-asked_option : (o : Option PrepareFault) (e : Exit) → option_map exit_of_fault o ≡ Some e → IsAsked e
-asked_option None e q = let no : ⊥ = cc in absurd no
-asked_option (Some f) e q = subst IsAsked (one_exit (exit_of_fault f) e q) (asked_fault f) where
-  one_exit : (a b : Exit) → Some a ≡ Some b → a ≡ b
-  one_exit a b r = cc
-
-asked_read : (schemas : List Schema) (x : World) (name : List ℕ) (choice : Choice) (bytes : List ℕ) (r : Reading Template) (e : Exit) → template_refusal schemas x name choice bytes r ≡ Some e → IsAsked e
-asked_read schemas x name choice bytes (Err f) e q = subst IsAsked (one_exit _ e q) tt where
-  one_exit : (a b : Exit) → Some a ≡ Some b → a ≡ b
-  one_exit a b r = cc
-asked_read schemas x name choice bytes (Ok t) e q = by (is_not_yet t) q where
-  one_exit : (a b : Exit) → Some a ≡ Some b → a ≡ b
-  one_exit a b r = cc
-
-  by : (b : Bool) → cond b (Some (exit.TemplateRefused (refusal.NotYet choice.template))) (option_map exit_of_fault (deploy_refusal schemas x name (deployed_source name choice bytes))) ≡ Some e → IsAsked e
-  by true p = subst IsAsked (one_exit (exit.TemplateRefused (refusal.NotYet choice.template)) e p) tt
-  by false p = asked_option (deploy_refusal schemas x name (deployed_source name choice bytes)) e p
-
-asked : (schemas : List Schema) (x : World) (name : List ℕ) (choice : Choice) (found : Option (List ℕ)) (e : Exit) → creation_refusal schemas x name choice found ≡ Some e → IsAsked e
-asked schemas x name choice None e q = subst IsAsked (one_exit (exit.TemplateRefused (refusal.Plan (TemplateMissing choice.template))) e q) tt where
-  one_exit : (a b : Exit) → Some a ≡ Some b → a ≡ b
-  one_exit a b r = cc
-asked schemas x name choice (Some bytes) e q = asked_read schemas x name choice bytes (template_of bytes) e q
-
-early_for : (o : LibraryUse) (schemas : List Schema) (x : World) (name : List ℕ) (choice : Choice) (e : Exit) → IsRefusedFor o schemas x name choice e → IsEarly e
-early_for o schemas x name choice exit.Done r = asked schemas x name choice r.0 exit.Done r.2
-early_for o schemas x name choice (exit.RolledBack c) r = asked schemas x name choice r.0 (exit.RolledBack c) r.2
-early_for o schemas x name choice (exit.Failed blamed) r = asked schemas x name choice r.0 (exit.Failed blamed) r.2
-early_for o schemas x name choice exit.BadWords r = asked schemas x name choice r.0 exit.BadWords r.2
-early_for o schemas x name choice exit.SinkFault r = asked schemas x name choice r.0 exit.SinkFault r.2
-early_for o schemas x name choice (exit.TemplateRefused f) r = tt
-early_for o schemas x name choice (exit.StackRefused f) r = tt
-early_for o schemas x name choice exit.LibraryFault r = tt
-early_for o schemas x name choice exit.DiskFault r = tt
-early_for o schemas x name choice exit.NoMemory r = tt
-early_for o schemas x name choice (exit.NotAJournal offset) r = tt
-early_for o schemas x name choice (exit.LaneMissing lane) r = tt
-early_for o schemas x name choice (exit.LaneTwice lane) r = tt
-early_for o schemas x name choice (exit.LaneAhead lane f epoch) r = tt
-early_for o schemas x name choice (exit.LaneFault lane) r = tt
-early_for o schemas x name choice (exit.Full long need room) r = tt
-
-early_by : (o : LibraryUse) (schemas : List Schema) (x : World) (name : List ℕ) (choice : Choice) (e : Exit) (bars : Option Status) → RefusesBy o schemas x name choice bars e → IsEarly e
-early_by o schemas x name choice e None r = early_for o schemas x name choice e r
-early_by o schemas x name choice e (Some state) r = subst IsEarly (sym r.0) tt
+-- what refuses a task is one of them
+is_early : (e : Exit) → RefusesEarly e → IsEarly e
+is_early exit.Done r = absurd r
+is_early exit.BadWords r = absurd r
+is_early exit.SinkFault r = absurd r
+is_early exit.LibraryFault r = tt
+is_early exit.DiskFault r = absurd r
+is_early exit.NoMemory r = tt
+is_early (exit.TemplateRefused f) r = tt
+is_early (exit.StackRefused f) r = tt
+is_early (exit.RolledBack c) r = absurd r
+is_early (exit.Failed blamed) r = absurd r
+is_early (exit.NotAJournal offset) r = absurd r
+is_early (exit.LaneMissing lane) r = absurd r
+is_early (exit.LaneTwice lane) r = absurd r
+is_early (exit.LaneAhead lane f epoch) r = absurd r
+is_early (exit.LaneFault lane) r = absurd r
+is_early (exit.Full long need room) r = absurd r
 
 module _ {D H : Type 0} (g : DiskGhosts D) (h : HandlerGhosts H) where
-  early_came : (m : Outside D H) (name : List ℕ) (choice : Choice) (e : Exit) → CameTo g h m name choice (Err e) → IsEarly e
-  early_came m name choice e (inl (f, refuses, is, unasked), none) = subst IsEarly (sym is) (early_refused f)
-  early_came m name choice e (inr (entered, ended, w), none) = by w.deploys where
-    by : DeploysAs g m.library entered ended name choice (Err e) → IsEarly e
-    by (inl (refused, still)) =
-        early_by m.library (schemas_in entered.lanes) (world_left entered.entries) name choice e (existing_status name (world_left entered.entries)) refused
-    by (inr (source, found, (f, exits, what))) = early_stopped ended.lanes f e exits
+  early_came : (m : Outside D H) (name : List ℕ) (t : Task) (e : Exit) → CameTo g h m name t (Err e) → IsEarly e
+  early_came m name t e (inl (f, refuses, is, unasked), none) = subst IsEarly (sym is) (early_refused f)
+  early_came m name t e (inr (entered, ended, w), none) = by w.does where
+    by : DoesTask g m.library entered ended name t (Err e) → IsEarly e
+    by (inl (refused, still)) = is_early e (early m.library (schemas_in entered.lanes) (world_left entered.entries) name t e refused)
+    by (inr (ordered, is, (f, exits, what))) = early_stopped ended.lanes f e exits
 
   -- a text that was printed whole is a prefix of itself
   cut_whole : (m : Outside D H) (p : Printing) (words : List (List ℕ)) (stack : List ℕ) (outcome : Result StackState Exit) → Comes g h m words stack outcome
@@ -180,58 +146,72 @@ module _ {D H : Type 0} (g : DiskGhosts D) (h : HandlerGhosts H) where
     printed = subst (Appends p.held p.held') (sym (take-length (outcome_text stack outcome))) a;
   }
 
-  deployed_says : Stays g → (m : Outside D H) (p : Printing) (words : List (List ℕ)) (name : List ℕ) (choice : Choice) (st : StackState) → deploy_words words ≡ Some (name, choice)
-      → CameTo g h m name choice (Ok st) → Appends p.held p.held' (outcome_text name (Ok st)) → IsDeployed g h m p words (exit_for st)
-  deployed_says stay m p words name choice st said (entered, ended, state, w, left, lasts) a = by w.enters w.closes where
-    by : HasEntered g h m entered → IsClosed g h m ended → IsDeployed g h m p words (exit_for st)
-    by (es0, over, enters, known, room) closes =
-        let r = has_run g m.library entered ended name choice state w.deploys in record {
+  done_says : Stays g → (m : Outside D H) (p : Printing) (words : List (List ℕ)) (name : List ℕ) (t : Task) (st : StackState) → task_words words ≡ Some (name, t)
+      → CameTo g h m name t (Ok st) → Appends p.held p.held' (outcome_text name (Ok st)) → HasEnded g h m p words (exit_for st)
+  done_says stay m p words name t st said (entered, ended, state, w, left, lasts) a = by w.enters w.closes where
+    by : HasEntered g h m entered → IsClosed g h m ended → HasEnded g h m p words (exit_for st)
+    by (es0, over, enters, known, room, opens) closes =
+        let r = has_run g m.library entered ended name t state w.does in record {
           name = name;
-          choice = choice;
+          what = t;
           said = said;
           entered = entered;
           ended = ended;
-          status = state;
+          state = state;
           was = w;
-          wrote = wrote g h stay m name choice entered ended state st es0 over enters r w left closes;
+          ordered = r.ordered;
+          orders = r.orders.orders;
+          number_is = number_is g h stay m name t entered ended state st es0 over enters w left closes r;
+          wrote = wrote g h stay m name t entered ended state st es0 over enters w left closes r;
           stack = st;
-          here = left.over.here ∙ ap (λ (s : StackState). Some s) left.stack_is;
-          status_is = ap (λ (s : StackState). s.status) (sym left.stack_is) ∙ left.over.status_is;
+          counted = counted g h stay m name t entered ended state st es0 over enters w left closes r;
+          here = here_now g h stay m name t entered ended state st es0 over enters w left closes;
+          status_is = state_is g h stay m name t entered ended state st es0 over enters w left closes;
+          operation_is = operation_is g h stay m name t entered ended state st es0 over enters w left closes r;
           exit_is = refl;
-          because = because g h stay m name choice entered ended state st es0 over enters r w left closes;
-          promise = promise g h stay m name choice entered ended state st es0 over enters r w left closes;
+          because = because g h stay m name t entered ended state st es0 over enters w left closes r;
+          promise = promise g h stay m name t entered ended state st es0 over enters w left closes r;
           printed = a;
         }
 
   -- an operation that ended says so by one of three exits
-  says_deployed : (m : Outside D H) (p : Printing) (words : List (List ℕ)) (st : StackState) (kind : Status) → IsDeployed g h m p words (exit_at st kind) → Says g h m p words (exit_at st kind)
-  says_deployed m p words st status.CreateComplete d = d
-  says_deployed m p words st status.RollbackComplete d = d
-  says_deployed m p words st _ d = d
+  says_ended : (m : Outside D H) (p : Printing) (words : List (List ℕ)) (st : StackState) (kind : Status) → HasEnded g h m p words (exit_by st kind) → Says g h m p words (exit_by st kind)
+  says_ended m p words st status.CreateComplete d = d
+  says_ended m p words st status.UpdateComplete d = d
+  says_ended m p words st status.DeleteComplete d = d
+  says_ended m p words st status.RollbackComplete d = back (was_continued st) d where
+    back : (b : Bool) → HasEnded g h m p words (cond b exit.Done (exit.RolledBack (cause_of st))) → Says g h m p words (cond b exit.Done (exit.RolledBack (cause_of st)))
+    back true k = k
+    back false k = k
+  says_ended m p words st status.UpdateRollbackComplete d = back (was_continued st) d where
+    back : (b : Bool) → HasEnded g h m p words (cond b exit.Done (exit.RolledBack (cause_of st))) → Says g h m p words (cond b exit.Done (exit.RolledBack (cause_of st)))
+    back true k = k
+    back false k = k
+  says_ended m p words st _ d = d
 
-  ended_says : (m : Outside D H) (p : Printing) (words : List (List ℕ)) (name : List ℕ) (choice : Choice) (e : Exit) → deploy_words words ≡ Some (name, choice) → CameTo g h m name choice (Err e)
+  ended_says : (m : Outside D H) (p : Printing) (words : List (List ℕ)) (name : List ℕ) (t : Task) (e : Exit) → task_words words ≡ Some (name, t) → CameTo g h m name t (Err e)
       → Appends p.held p.held' (outcome_text name (Err e)) → Says g h m p words e
-  ended_says m p words name choice exit.Done s r a = absurd (early_came m name choice exit.Done r)
-  ended_says m p words name choice exit.BadWords s r a = absurd (early_came m name choice exit.BadWords r)
-  ended_says m p words name choice exit.SinkFault s r a = absurd (early_came m name choice exit.SinkFault r)
-  ended_says m p words name choice (exit.RolledBack cause) s r a = absurd (early_came m name choice (exit.RolledBack cause) r)
-  ended_says m p words name choice (exit.Failed blamed) s r a = absurd (early_came m name choice (exit.Failed blamed) r)
-  ended_says m p words name choice exit.NoMemory s r a = cut_whole m p words name (Err exit.NoMemory) (inr (inr (choice, s, r))) a
-  ended_says m p words name choice (exit.LaneMissing lane) s r a = record { name = name; choice = choice; said = s; ran = r; printed = a }
-  ended_says m p words name choice (exit.TemplateRefused fault) s r a = record { name = name; choice = choice; said = s; ran = r; printed = a }
-  ended_says m p words name choice (exit.StackRefused fault) s r a = record { name = name; choice = choice; said = s; ran = r; printed = a }
-  ended_says m p words name choice exit.LibraryFault s r a = record { name = name; choice = choice; said = s; ran = r; printed = a }
-  ended_says m p words name choice exit.DiskFault s r a = record { name = name; choice = choice; said = s; ran = r; printed = a }
-  ended_says m p words name choice (exit.NotAJournal offset) s r a = record { name = name; choice = choice; said = s; ran = r; printed = a }
-  ended_says m p words name choice (exit.LaneTwice lane) s r a = record { name = name; choice = choice; said = s; ran = r; printed = a }
-  ended_says m p words name choice (exit.LaneAhead lane f epoch) s r a = record { name = name; choice = choice; said = s; ran = r; printed = a }
-  ended_says m p words name choice (exit.LaneFault lane) s r a = record { name = name; choice = choice; said = s; ran = r; printed = a }
-  ended_says m p words name choice (exit.Full long need room) s r a = record { name = name; choice = choice; said = s; ran = r; printed = a }
+  ended_says m p words name t exit.Done s r a = absurd (early_came m name t exit.Done r)
+  ended_says m p words name t exit.BadWords s r a = absurd (early_came m name t exit.BadWords r)
+  ended_says m p words name t exit.SinkFault s r a = absurd (early_came m name t exit.SinkFault r)
+  ended_says m p words name t exit.LibraryFault s r a = record { name = name; what = t; said = s; ran = r; printed = a }
+  ended_says m p words name t exit.DiskFault s r a = record { name = name; what = t; said = s; ran = r; printed = a }
+  ended_says m p words name t exit.NoMemory s r a = cut_whole m p words name (Err exit.NoMemory) (inr (inr (t, s, r))) a
+  ended_says m p words name t (exit.TemplateRefused f) s r a = record { name = name; what = t; said = s; ran = r; printed = a }
+  ended_says m p words name t (exit.StackRefused f) s r a = record { name = name; what = t; said = s; ran = r; printed = a }
+  ended_says m p words name t (exit.RolledBack c) s r a = absurd (early_came m name t (exit.RolledBack c) r)
+  ended_says m p words name t (exit.Failed blamed) s r a = absurd (early_came m name t (exit.Failed blamed) r)
+  ended_says m p words name t (exit.NotAJournal offset) s r a = record { name = name; what = t; said = s; ran = r; printed = a }
+  ended_says m p words name t (exit.LaneMissing lane) s r a = record { name = name; what = t; said = s; ran = r; printed = a }
+  ended_says m p words name t (exit.LaneTwice lane) s r a = record { name = name; what = t; said = s; ran = r; printed = a }
+  ended_says m p words name t (exit.LaneAhead lane f epoch) s r a = record { name = name; what = t; said = s; ran = r; printed = a }
+  ended_says m p words name t (exit.LaneFault lane) s r a = record { name = name; what = t; said = s; ran = r; printed = a }
+  ended_says m p words name t (exit.Full long need room) s r a = record { name = name; what = t; said = s; ran = r; printed = a }
 
-  deploy_says : Stays g → (m : Outside D H) (p : Printing) (words : List (List ℕ)) (name : List ℕ) (choice : Choice) (outcome : Result StackState Exit) → deploy_words words ≡ Some (name, choice)
-      → CameTo g h m name choice outcome → Appends p.held p.held' (outcome_text name outcome) → Says g h m p words (outcome_exit outcome)
-  deploy_says stay m p words name choice (Ok st) s r a = says_deployed m p words st st.status (deployed_says stay m p words name choice st s r a)
-  deploy_says stay m p words name choice (Err e) s r a = ended_says m p words name choice e s r a
+  task_says : Stays g → (m : Outside D H) (p : Printing) (words : List (List ℕ)) (name : List ℕ) (t : Task) (outcome : Result StackState Exit) → task_words words ≡ Some (name, t)
+      → CameTo g h m name t outcome → Appends p.held p.held' (outcome_text name outcome) → Says g h m p words (outcome_exit outcome)
+  task_says stay m p words name t (Ok st) s r a = says_ended m p words st st.status (done_says stay m p words name t st s r a)
+  task_says stay m p words name t (Err e) s r a = ended_says m p words name t e s r a
 
   said_by : Stays g → (m : Outside D H) (p : Printing) (words : List (List ℕ)) (stack : List ℕ) (outcome : Result StackState Exit) → Comes g h m words stack outcome
       → Appends p.held p.held' (outcome_text stack outcome) → Says g h m p words (outcome_exit outcome)
@@ -239,7 +219,7 @@ module _ {D H : Type 0} (g : DiskGhosts D) (h : HandlerGhosts H) where
       subst (λ (x : Result StackState Exit). Says g h m p words (outcome_exit x)) (sym q) (n, u, subst (λ (x : Result StackState Exit). Appends p.held p.held' (outcome_text stack x)) q a)
   said_by stay m p words stack outcome (inr (inl (q, u))) a =
       subst (λ (x : Result StackState Exit). Says g h m p words (outcome_exit x)) (sym q) (cut_whole m p words stack outcome (inr (inl (q, u))) a)
-  said_by stay m p words stack outcome (inr (inr (choice, s, r))) a = deploy_says stay m p words stack choice outcome s r a
+  said_by stay m p words stack outcome (inr (inr (t, s, r))) a = task_says stay m p words stack t outcome s r a
 
   pub printed_says : Stays g → (m : Outside D H) (p : Printing) (words : List (List ℕ)) (result : Exit) (stack : List ℕ) (outcome : Result StackState Exit) → Comes g h m words stack outcome
       → Printed p stack outcome result → Says g h m p words result
@@ -249,27 +229,27 @@ module _ {D H : Type 0} (g : DiskGhosts D) (h : HandlerGhosts H) where
   printed_says stay m p words result stack outcome c (inr (inr (e, a))) =
       subst (Says g h m p words) (sym e) (record { stack = stack; outcome = outcome; length = a.0; comes = c; printed = a.1 })
 
-  no_words : (words : List (List ℕ)) (said : List ℕ × Choice) → deploy_words words ≡ Some said → deploy_words words ≡ None → ⊥
+  no_words : (words : List (List ℕ)) (said : List ℕ × Task) → task_words words ≡ Some said → task_words words ≡ None → ⊥
   no_words words said s n = some≢none said (sym s ∙ n)
 
-  pub no_deploy : (m : Outside D H) (p : Printing) (words : List (List ℕ)) (result : Exit) → Says g h m p words result → deploy_words words ≡ None
+  pub no_task : (m : Outside D H) (p : Printing) (words : List (List ℕ)) (result : Exit) → Says g h m p words result → task_words words ≡ None
       → IsExitOf result (exit.BadWords ∷ exit.SinkFault ∷ exit.NoMemory ∷ [])
-  no_deploy m p words exit.BadWords s n = inl refl
-  no_deploy m p words exit.SinkFault s n = inr (inl refl)
-  no_deploy m p words exit.NoMemory s n = inr (inr (inl refl))
-  no_deploy m p words exit.Done s n = absurd (no_words words (s.name, s.choice) s.said n)
-  no_deploy m p words (exit.RolledBack cause) s n = absurd (no_words words (s.name, s.choice) s.said n)
-  no_deploy m p words (exit.Failed blamed) s n = absurd (no_words words (s.name, s.choice) s.said n)
-  no_deploy m p words (exit.TemplateRefused fault) s n = absurd (no_words words (s.name, s.choice) s.said n)
-  no_deploy m p words (exit.StackRefused fault) s n = absurd (no_words words (s.name, s.choice) s.said n)
-  no_deploy m p words exit.LibraryFault s n = absurd (no_words words (s.name, s.choice) s.said n)
-  no_deploy m p words exit.DiskFault s n = absurd (no_words words (s.name, s.choice) s.said n)
-  no_deploy m p words (exit.NotAJournal offset) s n = absurd (no_words words (s.name, s.choice) s.said n)
-  no_deploy m p words (exit.LaneTwice lane) s n = absurd (no_words words (s.name, s.choice) s.said n)
-  no_deploy m p words (exit.LaneMissing lane) s n = absurd (no_words words (s.name, s.choice) s.said n)
-  no_deploy m p words (exit.LaneAhead lane f epoch) s n = absurd (no_words words (s.name, s.choice) s.said n)
-  no_deploy m p words (exit.LaneFault lane) s n = absurd (no_words words (s.name, s.choice) s.said n)
-  no_deploy m p words (exit.Full long need room) s n = absurd (no_words words (s.name, s.choice) s.said n)
+  no_task m p words exit.BadWords s n = inl refl
+  no_task m p words exit.SinkFault s n = inr (inl refl)
+  no_task m p words exit.NoMemory s n = inr (inr (inl refl))
+  no_task m p words exit.Done s n = absurd (no_words words (s.name, s.what) s.said n)
+  no_task m p words exit.LibraryFault s n = absurd (no_words words (s.name, s.what) s.said n)
+  no_task m p words exit.DiskFault s n = absurd (no_words words (s.name, s.what) s.said n)
+  no_task m p words (exit.TemplateRefused f) s n = absurd (no_words words (s.name, s.what) s.said n)
+  no_task m p words (exit.StackRefused f) s n = absurd (no_words words (s.name, s.what) s.said n)
+  no_task m p words (exit.RolledBack c) s n = absurd (no_words words (s.name, s.what) s.said n)
+  no_task m p words (exit.Failed blamed) s n = absurd (no_words words (s.name, s.what) s.said n)
+  no_task m p words (exit.NotAJournal offset) s n = absurd (no_words words (s.name, s.what) s.said n)
+  no_task m p words (exit.LaneMissing lane) s n = absurd (no_words words (s.name, s.what) s.said n)
+  no_task m p words (exit.LaneTwice lane) s n = absurd (no_words words (s.name, s.what) s.said n)
+  no_task m p words (exit.LaneAhead lane f epoch) s n = absurd (no_words words (s.name, s.what) s.said n)
+  no_task m p words (exit.LaneFault lane) s n = absurd (no_words words (s.name, s.what) s.said n)
+  no_task m p words (exit.Full long need room) s n = absurd (no_words words (s.name, s.what) s.said n)
 
   -- what lasts after an operation that ended
   early_lasts : (e : Exit) (tells : Bool) (bytes : List ℕ) (may_leave : List ℕ → Type 0) → IsEarly e → LastsWhereOver e tells bytes may_leave
@@ -284,16 +264,16 @@ module _ {D H : Type 0} (g : DiskGhosts D) (h : HandlerGhosts H) where
   lasts_ever tells bytes may_leave (exit.Failed blamed) l = l
   lasts_ever tells bytes may_leave _ l = tt
 
-  lasts_came : (m : Outside D H) (name : List ℕ) (choice : Choice) (outcome : Result StackState Exit) → CameTo g h m name choice outcome
+  lasts_came : (m : Outside D H) (name : List ℕ) (t : Task) (outcome : Result StackState Exit) → CameTo g h m name t outcome
       → LastsWhereOver (outcome_exit outcome) g.tells (g.seen m.disk') (g.may_leave m.disk')
-  lasts_came m name choice (Ok st) (entered, ended, state, w, left, lasts) = lasts_ever g.tells (g.seen m.disk') (g.may_leave m.disk') (exit_for st) lasts
-  lasts_came m name choice (Err e) r = early_lasts e g.tells (g.seen m.disk') (g.may_leave m.disk') (early_came m name choice e r)
+  lasts_came m name t (Ok st) (entered, ended, state, w, left, lasts) = lasts_ever g.tells (g.seen m.disk') (g.may_leave m.disk') (exit_for st) lasts
+  lasts_came m name t (Err e) r = early_lasts e g.tells (g.seen m.disk') (g.may_leave m.disk') (early_came m name t e r)
 
   lasts_comes : (m : Outside D H) (words : List (List ℕ)) (stack : List ℕ) (outcome : Result StackState Exit) → Comes g h m words stack outcome
       → LastsWhereOver (outcome_exit outcome) g.tells (g.seen m.disk') (g.may_leave m.disk')
   lasts_comes m words stack outcome (inl (q, n, u)) = subst (λ (x : Result StackState Exit). LastsWhereOver (outcome_exit x) g.tells (g.seen m.disk') (g.may_leave m.disk')) (sym q) tt
   lasts_comes m words stack outcome (inr (inl (q, u))) = subst (λ (x : Result StackState Exit). LastsWhereOver (outcome_exit x) g.tells (g.seen m.disk') (g.may_leave m.disk')) (sym q) tt
-  lasts_comes m words stack outcome (inr (inr (choice, s, r))) = lasts_came m stack choice outcome r
+  lasts_comes m words stack outcome (inr (inr (t, s, r))) = lasts_came m stack t outcome r
 
   pub lasts_alone : (m : Outside D H) (p : Printing) (words : List (List ℕ)) (result : Exit) → AloneTells g h m p words result
       → LastsWhereOver result g.tells (g.seen m.disk') (g.may_leave m.disk')
@@ -303,13 +283,134 @@ module _ {D H : Type 0} (g : DiskGhosts D) (h : HandlerGhosts H) where
     by (inr (inl (e, r, a))) = subst (λ (x : Exit). LastsWhereOver x g.tells (g.seen m.disk') (g.may_leave m.disk')) (sym e) tt
     by (inr (inr (e, a))) = subst (λ (x : Exit). LastsWhereOver x g.tells (g.seen m.disk') (g.may_leave m.disk')) (sym e) tt
 
--- What the library holds decides whether a template is refused.
-some_inside : {A : Type 0} (x y : A) → Some x ≡ Some y → x ≡ y
-some_inside x y e = cc
+-- A task that is refused over the world is not done, and comes to that refusal.
+module _ (o : LibraryUse) (schemas : List Schema) (x : World) (name : List ℕ) where
+  -- what was found in a library that tells its texts is what stands there
+  found_is : (choice : Choice) (texts : Texts) (found : Option (List ℕ)) → o.texts ≡ Some texts → StandsUnder o.texts choice.template found → found ≡ text_named choice.template texts
+  found_is choice texts found told stands = subst (λ (z : Option Texts). StandsUnder z choice.template found) told stands
 
-same_entered : {D : Type 0} (es : List Entry) (lanes : List LaneNow) (b : BookNow D) → IsEntered es lanes b → AreSameLanes (map at_home lanes) b.lanes
-same_entered es lanes b enters =
-    ap (map name_and_schema) enters.lanes_are ∙ home_parts enters.raised ∙ raised_same lanes enters.raised (epoch_over es) enters.fences ∙ sym (home_parts lanes)
+  not_refused : (w : Option PrepareFault) (e : Exit) → w ≡ None → option_map exit_of_fault w ≡ Some e → ⊥
+  not_refused w e none q = some≢none e (sym q ∙ ap (option_map exit_of_fault) none)
+
+  -- an operation that goes on is refused for its stack, or for the first path that stops it
+  abbrev ResumesNot : Exit → Type 0
+  ResumesNot e =
+      (option_map exit_of_fault (resume_refusal x name) ≡ Some e)
+      ⊎ ((path kind : List ℕ) × (e ≡ exit.TemplateRefused (refusal.UnknownType path kind)) × (resume_refusal x name ≡ None) × IsFirstStuck (lane_kinds x) (known_stack name x) path kind)
+
+  resumes_not : (e : Exit) → IsRefusedAs o.texts schemas x name task.Resume e → ResumesNot e
+  resumes_not (exit.TemplateRefused (refusal.UnknownType path kind)) r = inr (path, kind, refl, r.0, r.1)
+  resumes_not (exit.TemplateRefused (refusal.Read text f)) r = inl r
+  resumes_not (exit.TemplateRefused (refusal.NotYet text)) r = inl r
+  resumes_not (exit.TemplateRefused (refusal.Plan f)) r = inl r
+  resumes_not exit.Done r = inl r
+  resumes_not exit.BadWords r = inl r
+  resumes_not exit.SinkFault r = inl r
+  resumes_not exit.LibraryFault r = inl r
+  resumes_not exit.DiskFault r = inl r
+  resumes_not exit.NoMemory r = inl r
+  resumes_not (exit.StackRefused f) r = inl r
+  resumes_not (exit.RolledBack c) r = inl r
+  resumes_not (exit.Failed blamed) r = inl r
+  resumes_not (exit.NotAJournal offset) r = inl r
+  resumes_not (exit.LaneMissing lane) r = inl r
+  resumes_not (exit.LaneTwice lane) r = inl r
+  resumes_not (exit.LaneAhead lane f epoch) r = inl r
+  resumes_not (exit.LaneFault lane) r = inl r
+  resumes_not (exit.Full long need room) r = inl r
+
+  never_ordered : (t : Task) (e : Exit) → IsRefusedAs o.texts schemas x name t e → (ordered : Order) → OrdersTask o schemas x name t ordered → ⊥
+  never_ordered (task.Deploy choice) e (inl q) ordered d = some≢none e (sym q ∙ d.free)
+  never_ordered (task.Deploy choice) e (inr (free, texts, told, q)) ordered d =
+      some≢none e (sym q ∙ ap (deployment_refusal schemas x name choice) (sym (found_is choice texts (Some d.bytes) told d.stands)) ∙ d.sound)
+  never_ordered (task.Continue paths) e r ordered d = not_refused (continue_refusal x name paths) e d.0 r
+  never_ordered task.Resume e r ordered d = by (resumes_not e r) where
+    by : ResumesNot e → ⊥
+    by (inl q) = not_refused (resume_refusal x name) e ((d.0).0) q
+    by (inr (path, kind, is, free, (w, stuck, at, sort, least))) = (d.0).1 w stuck
+
+  -- a test that refuses does so for its reason, or for want of memory
+  tests_so : (P : Order → Type 0) (w : Option PrepareFault) (f : PrepareFault) → TestsAs w P (Err f) → (w ≡ Some f) ⊎ (f ≡ prepare.NoMemory)
+  tests_so P w prepare.NoMemory q = inr refl
+  tests_so P w (prepare.Plan flaw) q = inl q
+  tests_so P w (prepare.UnknownType path kind) q = inl q
+  tests_so P w (prepare.Stack f) q = inl q
+
+  -- of a refusal that was foretold
+  abbrev IsForetold : Exit → Exit → Type 0
+  IsForetold e y = (y ≡ e) ⊎ ComesBefore y
+
+  wish_same : (w : Option PrepareFault) (f : PrepareFault) (e y : Exit) → option_map exit_of_fault w ≡ Some e → y ≡ exit_of_fault f → (w ≡ Some f) ⊎ (f ≡ prepare.NoMemory) → IsForetold e y
+  wish_same w f e y q is (inl told) = inl (is ∙ some_inside (exit_of_fault f) e (sym (ap (option_map exit_of_fault) told) ∙ q))
+  wish_same w f e y q is (inr none) = inr (subst ComesBefore (sym (is ∙ ap exit_of_fault none)) tt)
+
+  found_refused : (choice : Choice) (texts : Texts) (e y : Exit) → o.texts ≡ Some texts → deployment_refusal schemas x name choice (text_named choice.template texts) ≡ Some e
+      → IsRefusedFor o schemas x name choice y → IsForetold e y
+  found_refused choice texts e exit.Done told q r = inl (some_inside exit.Done e (sym r.2 ∙ ap (deployment_refusal schemas x name choice) (found_is choice texts r.0 told r.1) ∙ q))
+  found_refused choice texts e exit.BadWords told q r = inl (some_inside exit.BadWords e (sym r.2 ∙ ap (deployment_refusal schemas x name choice) (found_is choice texts r.0 told r.1) ∙ q))
+  found_refused choice texts e exit.SinkFault told q r = inl (some_inside exit.SinkFault e (sym r.2 ∙ ap (deployment_refusal schemas x name choice) (found_is choice texts r.0 told r.1) ∙ q))
+  found_refused choice texts e exit.LibraryFault told q r = inr tt
+  found_refused choice texts e exit.DiskFault told q r = inl (some_inside exit.DiskFault e (sym r.2 ∙ ap (deployment_refusal schemas x name choice) (found_is choice texts r.0 told r.1) ∙ q))
+  found_refused choice texts e exit.NoMemory told q r = inr tt
+  found_refused choice texts e (exit.TemplateRefused f) told q r = inl (some_inside (exit.TemplateRefused f) e (sym r.2 ∙ ap (deployment_refusal schemas x name choice) (found_is choice texts r.0 told r.1) ∙ q))
+  found_refused choice texts e (exit.StackRefused f) told q r = inl (some_inside (exit.StackRefused f) e (sym r.2 ∙ ap (deployment_refusal schemas x name choice) (found_is choice texts r.0 told r.1) ∙ q))
+  found_refused choice texts e (exit.RolledBack c) told q r = inl (some_inside (exit.RolledBack c) e (sym r.2 ∙ ap (deployment_refusal schemas x name choice) (found_is choice texts r.0 told r.1) ∙ q))
+  found_refused choice texts e (exit.Failed blamed) told q r = inl (some_inside (exit.Failed blamed) e (sym r.2 ∙ ap (deployment_refusal schemas x name choice) (found_is choice texts r.0 told r.1) ∙ q))
+  found_refused choice texts e (exit.NotAJournal offset) told q r = inl (some_inside (exit.NotAJournal offset) e (sym r.2 ∙ ap (deployment_refusal schemas x name choice) (found_is choice texts r.0 told r.1) ∙ q))
+  found_refused choice texts e (exit.LaneMissing lane) told q r = inl (some_inside (exit.LaneMissing lane) e (sym r.2 ∙ ap (deployment_refusal schemas x name choice) (found_is choice texts r.0 told r.1) ∙ q))
+  found_refused choice texts e (exit.LaneTwice lane) told q r = inl (some_inside (exit.LaneTwice lane) e (sym r.2 ∙ ap (deployment_refusal schemas x name choice) (found_is choice texts r.0 told r.1) ∙ q))
+  found_refused choice texts e (exit.LaneAhead lane f epoch) told q r = inl (some_inside (exit.LaneAhead lane f epoch) e (sym r.2 ∙ ap (deployment_refusal schemas x name choice) (found_is choice texts r.0 told r.1) ∙ q))
+  found_refused choice texts e (exit.LaneFault lane) told q r = inl (some_inside (exit.LaneFault lane) e (sym r.2 ∙ ap (deployment_refusal schemas x name choice) (found_is choice texts r.0 told r.1) ∙ q))
+  found_refused choice texts e (exit.Full long need room) told q r = inl (some_inside (exit.Full long need room) e (sym r.2 ∙ ap (deployment_refusal schemas x name choice) (found_is choice texts r.0 told r.1) ∙ q))
+
+  deploy_refused : (choice : Choice) (e y : Exit) (bars : Option Exit) → status_refusal name x ≡ bars → IsRefusedAs o.texts schemas x name (task.Deploy choice) e
+      → RefusesDeployment o schemas x name choice bars y → IsForetold e y
+  deploy_refused choice e y None is (inl q) r = absurd (some≢none e (sym q ∙ is))
+  deploy_refused choice e y None is (inr (free, texts, told, q)) r = found_refused choice texts e y told q r
+  deploy_refused choice e y (Some bar) is (inl q) r = inl (r.0 ∙ some_inside bar e (sym is ∙ q))
+  deploy_refused choice e y (Some bar) is (inr (free, texts, told, q)) r = absurd (some≢none bar (sym is ∙ free))
+
+  resume_same : (f : PrepareFault) (e y : Exit) → ResumesNot e → PreparesAs schemas x (wish.Resume name) (Err f) → y ≡ exit_of_fault f → IsForetold e y
+  resume_same (prepare.UnknownType path kind) e y (inl q) (free, first) is = absurd (not_refused (resume_refusal x name) e free q)
+  resume_same (prepare.UnknownType path kind) e y (inr (other, sort, same, none, least)) (free, first) is =
+      let one = one_stuck (known_stack name x) (lane_kinds x) path other kind sort first least in
+      inl (is ∙ ap (λ (p : List ℕ). exit.TemplateRefused (refusal.UnknownType p kind)) one.0 ∙ ap (λ (k : List ℕ). exit.TemplateRefused (refusal.UnknownType other k)) one.1 ∙ sym same)
+  resume_same prepare.NoMemory e y n p is = inr (subst ComesBefore (sym is) tt)
+  resume_same (prepare.Plan flaw) e y (inl q) p is = wish_same (resume_refusal x name) (prepare.Plan flaw) e y q is (inl p)
+  resume_same (prepare.Plan flaw) e y (inr (other, sort, same, none, least)) p is = absurd (some≢none (prepare.Plan flaw) (sym p ∙ none))
+  resume_same (prepare.Stack f) e y (inl q) p is = wish_same (resume_refusal x name) (prepare.Stack f) e y q is (inl p)
+  resume_same (prepare.Stack f) e y (inr (other, sort, same, none, least)) p is = absurd (some≢none (prepare.Stack f) (sym p ∙ none))
+
+  foretold : (t : Task) (e y : Exit) → IsRefusedAs o.texts schemas x name t e → RefusesTask o schemas x name t y → IsForetold e y
+  foretold (task.Deploy choice) e y r q = deploy_refused choice e y (status_refusal name x) refl r q
+  foretold (task.Continue paths) e y r ((f, prepares, is), unasked) = wish_same (continue_refusal x name paths) f e y r is (tests_so (IsContinuation x name paths) (continue_refusal x name paths) f prepares)
+  foretold task.Resume e y r ((f, prepares, is), unasked) = resume_same f e y (resumes_not e r) prepares is
+
+  -- a library is at fault only in a deployment, where its count rose
+  library_told : (t : Task) → RefusesTask o schemas x name t exit.LibraryFault → HasRisen o.faults o.faults'
+  library_told (task.Deploy choice) r = by (status_refusal name x) refl r where
+    by : (bars : Option Exit) → status_refusal name x ≡ bars → RefusesDeployment o schemas x name choice bars exit.LibraryFault → HasRisen o.faults o.faults'
+    by None is q = q
+    by (Some bar) is q = absurd (subst IsAsked (sym q.0) (asked_option _ bar is))
+  library_told (task.Continue paths) ((f, prepares, is), unasked) = absurd (subst IsAsked (sym is) (asked_fault f))
+  library_told task.Resume ((f, prepares, is), unasked) = absurd (subst IsAsked (sym is) (asked_fault f))
+
+before_refused : (f : EnterFault) → ComesBefore (enter_exit f)
+before_refused (fault.NotAJournal offset) = tt
+before_refused fault.DiskFault = tt
+before_refused (fault.LaneTwice lane) = tt
+before_refused (fault.LaneMissing lane) = tt
+before_refused (fault.Full length need room) = tt
+before_refused (fault.LaneAhead lane f epoch) = tt
+before_refused (fault.LaneFault lane) = tt
+before_refused fault.NoMemory = tt
+
+before_stopped : (lanes : List BookLane) (f : StopFault) (x : Exit) → ExitsFor lanes f x → ComesBefore x
+before_stopped lanes (stop.Full l need room) x q = subst ComesBefore (sym q) tt
+before_stopped lanes stop.DiskFault x q = subst ComesBefore (sym q) tt
+before_stopped lanes (stop.LaneAhead place f epoch) x (inl q) = subst ComesBefore (sym q) tt
+before_stopped lanes (stop.LaneAhead place f epoch) x (inr (b, at, q)) = subst ComesBefore (sym q) tt
+before_stopped lanes stop.NoMemory x q = subst ComesBefore (sym q) tt
 
 -- one call that failed raised a count
 names_there : (l : LaneNow) (ls : List LaneNow) → In l ls → is_among l.name (map (λ (k : LaneNow). k.name) ls) ≡ true
@@ -367,87 +468,50 @@ raised_fault (b ∷ bs) (k ∷ ks) zero epoch q = q.0.cause.1
 raised_fault (b ∷ bs) (k ∷ ks) (suc n) epoch q = raised_fault bs ks n epoch q.1
 
 module _ {D H : Type 0} (g : DiskGhosts D) (h : HandlerGhosts H) (m : Outside D H) where
-  module _ (name : List ℕ) (choice : Choice) (texts : Texts) (e : Exit) (told : m.library.texts ≡ Some texts) (forbids : IsRefusedOver g h m name choice texts e) where
-    -- what was found is what stands there
-    foretold : (entered : BookNow D) → HasEntered g h m entered → existing_status name (world_left entered.entries) ≡ None → (found : Option (List ℕ)) → StandsUnder m.library.texts choice.template found
-        → creation_refusal (schemas_in entered.lanes) (world_left entered.entries) name choice found ≡ Some e
-    foretold entered (es, over, enters, known, room) free found stands =
-        let opened : world_left entered.entries ≡ opened_world h m.handlers es = ap world_left enters.entries in
-        let same : schemas_in entered.lanes ≡ schemas_in (map at_home (handed_in h m.handlers)) =
-        schemas_same (map at_home (handed_in h m.handlers)) entered.lanes (same_entered es (handed_in h m.handlers) entered enters) in
-        let is : found ≡ text_named choice.template texts = subst (λ (x : Option Texts). StandsUnder x choice.template found) told stands in
-        ap (λ (ss : List Schema). creation_refusal ss (world_left entered.entries) name choice found) same
-        ∙ ap (λ (x : World). creation_refusal (schemas_in (map at_home (handed_in h m.handlers))) x name choice found) opened
-        ∙ ap (creation_refusal (schemas_in (map at_home (handed_in h m.handlers))) (opened_world h m.handlers es) name choice) is
-        ∙ forbids es (over.0).found (ap (existing_status name) (sym opened) ∙ free)
+  -- over the world of the book that was entered
+  refused_here : (name : List ℕ) (t : Task) (e : Exit) (entered : BookNow D) → HasEntered g h m entered → IsRefusedOver g h m name t e
+      → IsRefusedAs m.library.texts (schemas_in entered.lanes) (world_left entered.entries) name t e
+  refused_here name t e entered (es, over, enters, known, room, opens) forbids =
+      let opened : world_left entered.entries ≡ opened_world h m.handlers es = ap world_left enters.entries in
+      let same : schemas_in entered.lanes ≡ schemas_in (map at_home (handed_in h m.handlers)) =
+      schemas_same (map at_home (handed_in h m.handlers)) entered.lanes (same_entered es (handed_in h m.handlers) entered enters) in
+      subst (λ (y : World). IsRefusedAs m.library.texts (schemas_in entered.lanes) y name t e) (sym opened)
+      (subst (λ (ss : List Schema). IsRefusedAs m.library.texts ss (opened_world h m.handlers es) name t e) (sym same) (forbids es (over.0).found))
 
-    never_found : (entered ended : BookNow D) (state : Status) → WasDeployed g h m name choice entered ended (Ok state) → ⊥
-    never_found entered ended state w = by w.deploys where
-      by : DeploysAs g m.library entered ended name choice (Ok state) → ⊥
-      by (source, found, runs) = some≢none e (sym (foretold entered w.enters found.free (Some found.bytes) found.stands) ∙ found.sound)
+  came_refused : (name : List ℕ) (t : Task) (e x : Exit) → IsRefusedOver g h m name t e → CameTo g h m name t (Err x) → (x ≡ e) ⊎ ComesBefore x
+  came_refused name t e x forbids (inl (f, refuses, is, unasked), none) = inr (subst ComesBefore (sym is) (before_refused f))
+  came_refused name t e x forbids (inr (entered, ended, w), none) = by w.does where
+    by : DoesTask g m.library entered ended name t (Err x) → (x ≡ e) ⊎ ComesBefore x
+    by (inl (refused, still)) =
+        foretold m.library (schemas_in entered.lanes) (world_left entered.entries) name t e x (refused_here name t e entered w.enters forbids) refused
+    by (inr (ordered, is, (f, exits, what))) = inr (before_stopped ended.lanes f x exits)
 
-    asked_for : (x : Exit) (entered : BookNow D) → HasEntered g h m entered → (bars : Option Status) → existing_status name (world_left entered.entries) ≡ bars
-        → RefusesBy m.library (schemas_in entered.lanes) (world_left entered.entries) name choice bars x → (x ≡ e) ⊎ ComesBefore x
-    asked_for x entered enters (Some state) q r = inr (subst ComesBefore (sym r.0) tt)
-    asked_for exit.LibraryFault entered enters None q r = inr tt
-    asked_for exit.NoMemory entered enters None q r = inr tt
-    asked_for exit.Done entered enters None q r = inl (some_inside exit.Done e (sym r.2 ∙ foretold entered enters q r.0 r.1))
-    asked_for exit.BadWords entered enters None q r = inl (some_inside exit.BadWords e (sym r.2 ∙ foretold entered enters q r.0 r.1))
-    asked_for exit.SinkFault entered enters None q r = inl (some_inside exit.SinkFault e (sym r.2 ∙ foretold entered enters q r.0 r.1))
-    asked_for exit.DiskFault entered enters None q r = inl (some_inside exit.DiskFault e (sym r.2 ∙ foretold entered enters q r.0 r.1))
-    asked_for (exit.TemplateRefused f) entered enters None q r = inl (some_inside (exit.TemplateRefused f) e (sym r.2 ∙ foretold entered enters q r.0 r.1))
-    asked_for (exit.StackRefused f) entered enters None q r = inl (some_inside (exit.StackRefused f) e (sym r.2 ∙ foretold entered enters q r.0 r.1))
-    asked_for (exit.RolledBack c) entered enters None q r = inl (some_inside (exit.RolledBack c) e (sym r.2 ∙ foretold entered enters q r.0 r.1))
-    asked_for (exit.Failed blamed) entered enters None q r = inl (some_inside (exit.Failed blamed) e (sym r.2 ∙ foretold entered enters q r.0 r.1))
-    asked_for (exit.NotAJournal offset) entered enters None q r = inl (some_inside (exit.NotAJournal offset) e (sym r.2 ∙ foretold entered enters q r.0 r.1))
-    asked_for (exit.LaneMissing lane) entered enters None q r = inl (some_inside (exit.LaneMissing lane) e (sym r.2 ∙ foretold entered enters q r.0 r.1))
-    asked_for (exit.LaneTwice lane) entered enters None q r = inl (some_inside (exit.LaneTwice lane) e (sym r.2 ∙ foretold entered enters q r.0 r.1))
-    asked_for (exit.LaneAhead lane f epoch) entered enters None q r = inl (some_inside (exit.LaneAhead lane f epoch) e (sym r.2 ∙ foretold entered enters q r.0 r.1))
-    asked_for (exit.LaneFault lane) entered enters None q r = inl (some_inside (exit.LaneFault lane) e (sym r.2 ∙ foretold entered enters q r.0 r.1))
-    asked_for (exit.Full long need room) entered enters None q r = inl (some_inside (exit.Full long need room) e (sym r.2 ∙ foretold entered enters q r.0 r.1))
-
-    before_refused : (f : EnterFault) → ComesBefore (enter_exit f)
-    before_refused (fault.NotAJournal offset) = tt
-    before_refused fault.DiskFault = tt
-    before_refused (fault.LaneTwice lane) = tt
-    before_refused (fault.LaneMissing lane) = tt
-    before_refused (fault.Full length need room) = tt
-    before_refused (fault.LaneAhead lane f epoch) = tt
-    before_refused (fault.LaneFault lane) = tt
-    before_refused fault.NoMemory = tt
-
-    came_refused : (x : Exit) → CameTo g h m name choice (Err x) → (x ≡ e) ⊎ ComesBefore x
-    came_refused x (inl (f, refuses, is, unasked), none) = inr (subst ComesBefore (sym is) (before_refused f))
-    came_refused x (inr (entered, ended, w), none) = by w.deploys where
-      by : DeploysAs g m.library entered ended name choice (Err x) → (x ≡ e) ⊎ ComesBefore x
-      by (inl (refused, still)) = asked_for x entered w.enters (existing_status name (world_left entered.entries)) refl refused
-      by (inr (source, found, runs)) = absurd (some≢none e (sym (foretold entered w.enters found.free (Some found.bytes) found.stands) ∙ found.sound))
-
-  same_words : (words : List (List ℕ)) (a b : List ℕ × Choice) → deploy_words words ≡ Some a → deploy_words words ≡ Some b → a ≡ b
+  same_words : (words : List (List ℕ)) (a b : List ℕ × Task) → task_words words ≡ Some a → task_words words ≡ Some b → a ≡ b
   same_words words a b p q = some_inside a b (sym p ∙ q)
 
-  module _ (p : Printing) (words : List (List ℕ)) (name : List ℕ) (choice : Choice) (texts : Texts) (e : Exit) (said : deploy_words words ≡ Some (name, choice)) (told : m.library.texts ≡ Some texts)
-      (forbids : IsRefusedOver g h m name choice texts e) where
-    at_words : (other : List ℕ × Choice) → deploy_words words ≡ Some other → IsRefusedOver g h m other.0 other.1 texts e
-    at_words other q = subst (λ (y : List ℕ × Choice). IsRefusedOver g h m y.0 y.1 texts e) (same_words words (name, choice) other said q) forbids
+  module _ (p : Printing) (words : List (List ℕ)) (name : List ℕ) (t : Task) (e : Exit) (said : task_words words ≡ Some (name, t)) (forbids : IsRefusedOver g h m name t e) where
+    at_words : (other : List ℕ × Task) → task_words words ≡ Some other → IsRefusedOver g h m other.0 other.1 e
+    at_words other q = subst (λ (y : List ℕ × Task). IsRefusedOver g h m y.0 y.1 e) (same_words words (name, t) other said q) forbids
 
-    never_deployed : (x : Exit) → IsDeployed g h m p words x → ⊥
-    never_deployed x d = never_found d.name d.choice texts e told (at_words (d.name, d.choice) d.said) d.entered d.ended d.status d.was
+    never_done : (x : Exit) → HasEnded g h m p words x → ⊥
+    never_done x d =
+        never_ordered m.library (schemas_in d.entered.lanes) (world_left d.entered.entries) d.name d.what e
+        (refused_here d.name d.what e d.entered d.was.enters (at_words (d.name, d.what) d.said)) d.ordered d.orders
 
     by_early : (x : Exit) → EndsEarly g h m p words x → (x ≡ e) ⊎ ComesBefore x
-    by_early x s = came_refused s.name s.choice texts e told (at_words (s.name, s.choice) s.said) x s.ran
+    by_early x s = came_refused s.name s.what e x (at_words (s.name, s.what) s.said) s.ran
 
     pub refuses : (result : Exit) → Says g h m p words result → (result ≡ e) ⊎ ComesBefore result
-    refuses exit.Done s = absurd (never_deployed exit.Done s)
-    refuses (exit.RolledBack cause) s = absurd (never_deployed (exit.RolledBack cause) s)
-    refuses (exit.Failed blamed) s = absurd (never_deployed (exit.Failed blamed) s)
-    refuses exit.BadWords s = absurd (no_words g h words (name, choice) said s.0)
+    refuses exit.Done s = absurd (never_done exit.Done s)
+    refuses exit.BadWords s = absurd (no_words g h words (name, t) said s.0)
     refuses exit.SinkFault s = inr tt
+    refuses exit.LibraryFault s = by_early exit.LibraryFault s
+    refuses exit.DiskFault s = by_early exit.DiskFault s
     refuses exit.NoMemory s = inr tt
     refuses (exit.TemplateRefused f) s = by_early (exit.TemplateRefused f) s
     refuses (exit.StackRefused f) s = by_early (exit.StackRefused f) s
-    refuses exit.LibraryFault s = by_early exit.LibraryFault s
-    refuses exit.DiskFault s = by_early exit.DiskFault s
+    refuses (exit.RolledBack c) s = absurd (never_done (exit.RolledBack c) s)
+    refuses (exit.Failed blamed) s = absurd (never_done (exit.Failed blamed) s)
     refuses (exit.NotAJournal offset) s = by_early (exit.NotAJournal offset) s
     refuses (exit.LaneMissing lane) s = by_early (exit.LaneMissing lane) s
     refuses (exit.LaneTwice lane) s = by_early (exit.LaneTwice lane) s
@@ -457,11 +521,8 @@ module _ {D H : Type 0} (g : DiskGhosts D) (h : HandlerGhosts H) (m : Outside D 
 
   -- Where no count rose.
   module _ (p : Printing) (c : NoCountRose g h m p) where
-    disk_rose : HasRisen (g.count m.disk) (g.count m.disk') → ⊥
-    disk_rose = c.disk
-
-    library_rose : (name : List ℕ) (choice : Choice) → CameTo g h m name choice (Err exit.LibraryFault) → ⊥
-    library_rose name choice (inl (f, refuses, is, unasked), none) = by f is where
+    library_rose : (name : List ℕ) (t : Task) → CameTo g h m name t (Err exit.LibraryFault) → ⊥
+    library_rose name t (inl (f, refuses, is, unasked), none) = by f is where
       by : (f : EnterFault) → exit.LibraryFault ≡ enter_exit f → ⊥
       by (fault.NotAJournal offset) q = cc
       by fault.DiskFault q = cc
@@ -471,7 +532,7 @@ module _ {D H : Type 0} (g : DiskGhosts D) (h : HandlerGhosts H) (m : Outside D 
       by (fault.LaneAhead lane fe epoch) q = cc
       by (fault.LaneFault lane) q = cc
       by fault.NoMemory q = cc
-    library_rose name choice (inr (entered, ended, w), none) = by w.deploys where
+    library_rose name t (inr (entered, ended, w), none) = by w.does where
       stopped : (f : StopFault) → ExitsFor ended.lanes f exit.LibraryFault → ⊥
       stopped (stop.Full l need room) q = cc
       stopped stop.DiskFault q = cc
@@ -479,18 +540,12 @@ module _ {D H : Type 0} (g : DiskGhosts D) (h : HandlerGhosts H) (m : Outside D 
       stopped (stop.LaneAhead place f epoch) (inr (b, at, q)) = cc
       stopped stop.NoMemory q = cc
 
-      barred : (bars : Option Status) → RefusesBy m.library (schemas_in entered.lanes) (world_left entered.entries) name choice bars exit.LibraryFault → ⊥
-      barred None r = c.library r
-      barred (Some state) r = let q = r.0 in never state q where
-        never : (z : Status) → exit.LibraryFault ≡ exit.StackRefused (WrongStatus z) → ⊥
-        never z q = cc
+      by : DoesTask g m.library entered ended name t (Err exit.LibraryFault) → ⊥
+      by (inl (refused, still)) = c.library (library_told m.library (schemas_in entered.lanes) (world_left entered.entries) name t refused)
+      by (inr (ordered, is, (f, exits, what))) = stopped f exits
 
-      by : DeploysAs g m.library entered ended name choice (Err exit.LibraryFault) → ⊥
-      by (inl (refused, still)) = barred (existing_status name (world_left entered.entries)) refused
-      by (inr (source, found, (f, exits, what))) = stopped f exits
-
-    lane_rose : (name : List ℕ) (choice : Choice) (lane : List ℕ) → CameTo g h m name choice (Err (exit.LaneFault lane)) → ⊥
-    lane_rose name choice lane (inl (f, refuses, is, unasked), none) = by f is refuses where
+    lane_rose : (name : List ℕ) (t : Task) (lane : List ℕ) → CameTo g h m name t (Err (exit.LaneFault lane)) → ⊥
+    lane_rose name t lane (inl (f, refuses, is, unasked), none) = by f is refuses where
       by : (f : EnterFault) → exit.LaneFault lane ≡ enter_exit f → RefusesAs g h m.disk m.handlers m.disk' m.handlers' f → ⊥
       by (fault.NotAJournal offset) q r = cc
       by fault.DiskFault q r = cc
@@ -500,7 +555,7 @@ module _ {D H : Type 0} (g : DiskGhosts D) (h : HandlerGhosts H) (m : Outside D 
       by (fault.LaneAhead other fe epoch) q r = cc
       by (fault.LaneFault other) q (es, over, u) = c.lanes u.place (raised_fault (handed_in h m.handlers) (handed_in h m.handlers') u.place (epoch_over es) u.fences)
       by fault.NoMemory q r = cc
-    lane_rose name choice lane (inr (entered, ended, w), none) = by w.deploys where
+    lane_rose name t lane (inr (entered, ended, w), none) = by w.does where
       stopped : (f : StopFault) → ExitsFor ended.lanes f (exit.LaneFault lane) → ⊥
       stopped (stop.Full l need room) q = cc
       stopped stop.DiskFault q = cc
@@ -508,18 +563,12 @@ module _ {D H : Type 0} (g : DiskGhosts D) (h : HandlerGhosts H) (m : Outside D 
       stopped (stop.LaneAhead place f epoch) (inr (b, at, q)) = cc
       stopped stop.NoMemory q = cc
 
-      barred : (bars : Option Status) → RefusesBy m.library (schemas_in entered.lanes) (world_left entered.entries) name choice bars (exit.LaneFault lane) → ⊥
-      barred None r = asked (schemas_in entered.lanes) (world_left entered.entries) name choice r.0 (exit.LaneFault lane) r.2
-      barred (Some state) r = let q = r.0 in never state q where
-        never : (z : Status) → exit.LaneFault lane ≡ exit.StackRefused (WrongStatus z) → ⊥
-        never z q = cc
+      by : DoesTask g m.library entered ended name t (Err (exit.LaneFault lane)) → ⊥
+      by (inl (refused, still)) = early m.library (schemas_in entered.lanes) (world_left entered.entries) name t (exit.LaneFault lane) refused
+      by (inr (ordered, is, (f, exits, what))) = stopped f exits
 
-      by : DeploysAs g m.library entered ended name choice (Err (exit.LaneFault lane)) → ⊥
-      by (inl (refused, still)) = barred (existing_status name (world_left entered.entries)) refused
-      by (inr (source, found, (f, exits, what))) = stopped f exits
-
-    disk_fault : (name : List ℕ) (choice : Choice) → CameTo g h m name choice (Err exit.DiskFault) → ⊥
-    disk_fault name choice (inl (f, refuses, is, unasked), none) = by f is refuses where
+    disk_fault : (name : List ℕ) (t : Task) → CameTo g h m name t (Err exit.DiskFault) → ⊥
+    disk_fault name t (inl (f, refuses, is, unasked), none) = by f is refuses where
       by : (f : EnterFault) → exit.DiskFault ≡ enter_exit f → RefusesAs g h m.disk m.handlers m.disk' m.handlers' f → ⊥
       by (fault.NotAJournal offset) q r = cc
       by fault.DiskFault q r = c.disk r.0
@@ -529,25 +578,21 @@ module _ {D H : Type 0} (g : DiskGhosts D) (h : HandlerGhosts H) (m : Outside D 
       by (fault.LaneAhead other fe epoch) q r = cc
       by (fault.LaneFault other) q r = cc
       by fault.NoMemory q r = cc
-    disk_fault name choice (inr (entered, ended, w), none) = by w.enters w.closes w.deploys where
-      barred : (bars : Option Status) → RefusesBy m.library (schemas_in entered.lanes) (world_left entered.entries) name choice bars exit.DiskFault → ⊥
-      barred None r = asked (schemas_in entered.lanes) (world_left entered.entries) name choice r.0 exit.DiskFault r.2
-      barred (Some state) r = let q = r.0 in never state q where
-        never : (z : Status) → exit.DiskFault ≡ exit.StackRefused (WrongStatus z) → ⊥
-        never z q = cc
-
+    disk_fault name t (inr (entered, ended, w), none) = by w.enters w.closes w.does where
       faulted : (old : D) → g.count m.disk ≤ g.count old → m.disk' ≡ ended.disk → HasFaulted (g.count old) (g.count ended.disk) → ⊥
       faulted old low same r =
           c.disk (subst (λ (d : D). HasRisen (g.count m.disk) (g.count d)) (sym same)
           (risen_within (g.count m.disk) (g.count old) (g.count ended.disk) (g.count ended.disk) low r.1 r.0 (let le : g.count ended.disk ≤ g.count ended.disk = omega arith in le)))
 
-      began : (source : Source) (f : StopFault) → ExitsFor ended.lanes f exit.DiskFault → g.count m.disk ≤ g.count entered.disk → m.disk' ≡ ended.disk
-          → BeginsOrder g entered ended (Begin (create_entry ((world_left entered.entries).operation + 1) name source)) (Err f) → ⊥
-      began source (stop.Full l need room) q low same b = cc
-      began source stop.DiskFault q low same b = faulted entered.disk low same ((b.0.1).0)
-      began source (stop.LaneAhead place f epoch) (inl q) low same b = cc
-      began source (stop.LaneAhead place f epoch) (inr (l, at, q)) low same b = cc
-      began source stop.NoMemory q low same b = cc
+      began : (ordered : Order) (f : StopFault) → ExitsFor ended.lanes f exit.DiskFault → g.count m.disk ≤ g.count entered.disk → m.disk' ≡ ended.disk
+          → BeginsOrder g entered ended ordered (Err f) → ⊥
+      began (order.Begin e) (stop.Full l need room) q low same b = cc
+      began (order.Begin e) stop.DiskFault q low same b = faulted entered.disk low same ((b.0.1).0)
+      began (order.Begin e) (stop.LaneAhead place f epoch) (inl q) low same b = cc
+      began (order.Begin e) (stop.LaneAhead place f epoch) (inr (l, at, q)) low same b = cc
+      began (order.Begin e) stop.NoMemory q low same b = cc
+      began (order.Review e) f q low same b = absurd b
+      began (order.Resume n) f q low same b = let no : ⊥ = (let never = b.0 in cc) in no
 
       halted : (number : ℕ) (last : BookNow D) (f : StopFault) → ExitsFor ended.lanes f exit.DiskFault → g.count m.disk ≤ g.count last.disk → m.disk' ≡ ended.disk → Stops g number last ended f → ⊥
       halted number last (stop.Full l need room) q low same s = cc
@@ -561,12 +606,12 @@ module _ {D H : Type 0} (g : DiskGhosts D) (h : HandlerGhosts H) (m : Outside D 
       halted number last (stop.LaneAhead place f epoch) (inr (l, at, q)) low same s = cc
       halted number last stop.NoMemory q low same s = cc
 
-      by : HasEntered g h m entered → IsClosed g h m ended → DeploysAs g m.library entered ended name choice (Err exit.DiskFault) → ⊥
-      by enters closes (inl (refused, still)) = barred (existing_status name (world_left entered.entries)) refused
-      by (es, over, enters, known, room) closes (inr (source, found, (f, exits, inl (begins, lanes, known')))) = began source f exits room.count closes.0 begins
-      by (es, over, enters, known, room) closes (inr (source, found, (f, exits, inr (number, begun, is, (last, course, stops, keeps))))) =
+      by : HasEntered g h m entered → IsClosed g h m ended → DoesTask g m.library entered ended name t (Err exit.DiskFault) → ⊥
+      by enters closes (inl (refused, still)) = early m.library (schemas_in entered.lanes) (world_left entered.entries) name t exit.DiskFault refused
+      by (es, over, enters, known, room, opens) closes (inr (ordered, is, (f, exits, inl (begins, lanes, known')))) = began ordered f exits room.count closes.0 begins
+      by (es, over, enters, known, room, opens) closes (inr (ordered, is, (f, exits, inr (number, begun, begins, (last, course, stops, keeps, grows))))) =
           let first = room.count in
-          let second = (is.3).count in
+          let second = (begins.3).count in
           let third = keeps.count in halted number last f exits (omega (arith, first, second, third)) closes.0 stops
 
     -- no call failed
@@ -578,84 +623,107 @@ module _ {D H : Type 0} (g : DiskGhosts D) (h : HandlerGhosts H) (m : Outside D 
           c.lanes at.place (subst (λ n. HasRisen n (slice_index_or (counts_of h m.handlers') at.place 0)) (sym at.first)
           (subst (HasRisen (i.was).count) (sym at.last) (risen_within (i.was).count before after (i.now).count i.between.0 rose i.between.1 i.between.2)))
 
-      never_failed : (number : ℕ) (es : List Entry) (s : StackState) (path : List ℕ) (why : Reason) → HasFailedCall (handed_in h m.handlers) (handed_in h m.handlers') number es s path why → ⊥
-      never_failed number es s path why f = never_counted (f.lane).0 f.before f.after f.rose (f.lane).1
+      no_failure : (es : List Entry) (e : Entry) → CountsWithin (handed_in h m.handlers) (handed_in h m.handlers') es e → IsNoFailure e
+      no_failure es (entry.Outcome number token (reply.Success physical attrs) before after) i = tt
+      no_failure es (entry.Outcome number token (reply.Failed code) before after) i = absurd (never_counted (i.1).0 before after i.0.1 (i.1).2)
+      no_failure es (entry.Outcome number token reply.Doubt before after) i = absurd (never_counted (i.1).0 before after i.0.1 (i.1).2)
+      no_failure es (entry.Opened epoch lanes) i = tt
+      no_failure es (entry.Begin number stack k) i = tt
+      no_failure es (entry.ChangeSet number stack source rows outputs) i = tt
+      no_failure es (entry.Kept number path physical w) i = tt
+      no_failure es (entry.Intent number token lane path q) i = tt
+      no_failure es (entry.Phase number ph why) i = tt
+      no_failure es (entry.Done number state failed) i = tt
 
-      no_failure : (e : Entry) → IsCounted (handed_in h m.handlers) (handed_in h m.handlers') e → IsNoFailure e
-      no_failure (entry.Outcome number token (reply.Success physical attrs) before after) i = tt
-      no_failure (entry.Outcome number token (reply.Failed code) before after) i = absurd (never_counted (i.1).0 before after i.0.1 (i.1).1)
-      no_failure (entry.Outcome number token reply.Doubt before after) i = absurd (never_counted (i.1).0 before after i.0.1 (i.1).1)
-      no_failure (entry.Opened epoch lanes) i = tt
-      no_failure (entry.Begin number stack k) i = tt
-      no_failure (entry.ChangeSet number stack source rows outputs) i = tt
-      no_failure (entry.Kept number path physical w) i = tt
-      no_failure (entry.Intent number token lane path q) i = tt
-      no_failure (entry.Phase number ph why) i = tt
-      no_failure (entry.Done number state failed) i = tt
+-- where no entry tells of a call that failed, an earlier command's calls are blamed alone
+module _ (earlier : List Entry) (ordered : Order) (es : List Entry) (s : StackState) (none : (x : Entry) → In x es → IsNoFailure x) where
+  not_so : (a : Reply) (why : Reason) (n token before after : ℕ) → IsNoFailure (entry.Outcome n token a before after) → reason_in a ≡ Some why → ⊥
+  not_so (reply.Success physical attrs) why n token before after k told = let no : ⊥ = cc in no
+  not_so (reply.Failed code) why n token before after k told = absurd k
+  not_so reply.Doubt why n token before after k told = absurd k
 
-      first_blamed : (number : ℕ) (es : List Entry) (s : StackState) (blamed : List (List ℕ)) → (blamed ≡ [] → ⊥) → HaveFailedCalls (handed_in h m.handlers) (handed_in h m.handlers') number es s blamed → ⊥
-      first_blamed number es s [] some each = some refl
-      first_blamed number es s (path ∷ blamed) some each = let f = each path here in never_failed number es s path f.0 f.1
+  narrowed : (path : List ℕ) (why : Reason) → CallFailed earlier ordered es s path why → CallFailed earlier ordered [] s path why
+  narrowed path why f = record {
+    token = f.token;
+    answer = f.answer;
+    before = f.before;
+    after = f.after;
+    stands = elim f.stands [
+      | inl i ↦ absurd (not_so f.answer why (number_of ordered) f.token f.before f.after (none (entry.Outcome (number_of ordered) f.token f.answer f.before f.after) i) f.told)
+      | inr w ↦ inr w
+    ];
+    told = f.told;
+    call = f.call;
+    of_call = f.of_call;
+    at_path = f.at_path;
+    rose = f.rose;
+  }
 
-      -- an end blames no call where no count rose
-      blames_none : {entered ended : BookNow D} {name : List ℕ} {state : Status} (w : WroteCreation entered ended name state) (s : StackState) (x : World) (source : Source) (e : Exit)
-          → KeepsPromise g h m e name x s source → EndsFor g h m w s e → BlamesNone g h m e
-      blames_none w s x source exit.Done k b = tt
-      blames_none {entered} w s x source (exit.RolledBack (cause.Handler path why)) k b = never_failed (number_in entered) w.es s path why b.1
-      blames_none w s x source (exit.RolledBack (cause.Plan f)) k b = tt
-      blames_none w s x source (exit.RolledBack (cause.Export export)) k b = tt
-      blames_none {entered} w s x source (exit.Failed blamed) k b = by where
-        by : HaveAgreed g h m → ⊥
-        by (tells, schemas, all, agree) = first_blamed (number_in entered) w.es s blamed (k.promised tells schemas all agree).some (b.1 (tells, schemas, all, agree))
-      blames_none w s x source exit.BadWords k b = absurd b
-      blames_none w s x source (exit.TemplateRefused f) k b = absurd b
-      blames_none w s x source (exit.StackRefused f) k b = absurd b
-      blames_none w s x source exit.LibraryFault k b = absurd b
-      blames_none w s x source exit.DiskFault k b = absurd b
-      blames_none w s x source exit.SinkFault k b = absurd b
-      blames_none w s x source exit.NoMemory k b = absurd b
-      blames_none w s x source (exit.NotAJournal offset) k b = absurd b
-      blames_none w s x source (exit.LaneMissing lane) k b = absurd b
-      blames_none w s x source (exit.LaneTwice lane) k b = absurd b
-      blames_none w s x source (exit.LaneAhead lane f epoch) k b = absurd b
-      blames_none w s x source (exit.LaneFault lane) k b = absurd b
-      blames_none w s x source (exit.Full long need room) k b = absurd b
+  narrowed_by : (k : Cause) → FailedBy earlier ordered es s k → FailedBy earlier ordered [] s k
+  narrowed_by (cause.Handler path why) f = narrowed path why f
+  narrowed_by (cause.Plan flaw) f = tt
+  narrowed_by (cause.Export export) f = tt
 
-    pub unfailed : (words : List (List ℕ)) (e : Exit) (d : IsDeployed g h m p words e)
-        → ((x : Entry) → In x d.wrote.es → IsCounted (handed_in h m.handlers) (handed_in h m.handlers') x)
-        → map (λ (l : LaneNow). l.name) (handed_in h m.handlers') ≡ map (λ (l : LaneNow). l.name) (handed_in h m.handlers) → EndsUnfailed g h m p words e
-    unfailed words e d counted same = by d.was.enters where
-      by : HasEntered g h m d.entered → EndsUnfailed g h m p words e
-      by (es, over, enters, known, room) = (
-        d,
-        λ x i. no_failure same (over.0).differ x (counted x i),
-        blames_none same (over.0).differ d.wrote d.stack (world_left d.ended.entries) (source_for d.name (number_in d.entered) d.wrote.source) e d.promise d.because,
-      )
+module _ {D H : Type 0} (g : DiskGhosts D) (h : HandlerGhosts H) (m : Outside D H) (name : List ℕ) (entered : BookNow D) (es : List Entry) (s : StackState) where
+  module _ (none : (x : Entry) → In x es → IsNoFailure x) where
+    narrowed_cause : (ordered : Order) (k : Cause) → HadCause g h m entered ordered es s k → HadCause g h m entered ordered [] s k
+    narrowed_cause (order.Resume n) k f = λ agreed. narrowed_by entered.entries (order.Resume n) es s none k (f agreed)
+    narrowed_cause (order.Begin e) k f = narrowed_by entered.entries (order.Begin e) es s none k f
+    narrowed_cause (order.Review e) k f = narrowed_by entered.entries (order.Review e) es s none k f
+
+    untold_cause : (ordered : Order) (k : Cause) → IsUntold g h m ordered s → HadCause g h m entered ordered [] s k
+    untold_cause (order.Resume n) k u = λ agreed. absurd (u.0 agreed)
+    untold_cause (order.Begin e) k u = absurd u
+    untold_cause (order.Review e) k u = absurd u
+
+    narrowed_at : (ordered : Order) (blamed : List (List ℕ)) → FailedAt g h m entered ordered es s blamed → FailedAt g h m entered ordered [] s blamed
+    narrowed_at ordered blamed f = λ agreed path i. let (why, failed) = f agreed path i in (why, narrowed entered.entries ordered es s none path why failed)
+
+    blames_back : (ordered : Order) (k : Cause) → TurnedNow g h m entered name ordered es s k ⊎ (TurnedBefore g h m entered name ordered es s k ⊎ IsUntold g h m ordered s)
+        → BlamesNoCall g h m entered name ordered s (exit.RolledBack k)
+    blames_back ordered k (inl (turned, had)) = inr (narrowed_cause ordered k had)
+    blames_back ordered k (inr (inl b)) = inl b.wrote
+    blames_back ordered k (inr (inr u)) = inr (untold_cause ordered k u)
 
 -- all of it
 module _ {D H : Type 0} (g : DiskGhosts D) (h : HandlerGhosts H) (stay : Stays g) (m : Outside D H) (p : Printing) (words : List (List ℕ)) where
-  counted_all : (e : Exit) (d : IsDeployed g h m p words e) (x : Entry) → In x d.wrote.es → IsCounted (handed_in h m.handlers) (handed_in h m.handlers') x
-  counted_all e d x i = by d.was.enters d.was.closes where
-    by : HasEntered g h m d.entered → IsClosed g h m d.ended → IsCounted (handed_in h m.handlers) (handed_in h m.handlers') x
-    by (es, over, enters, known, room) closes =
-        let r = has_run g m.library d.entered d.ended d.name d.choice d.status d.was.deploys in
-        let same : d.wrote.es ≡ r.wrote.es =
-        same_behind d.entered.entries (create_entry (number_in d.entered) d.name d.wrote.source) (create_entry (number_in d.entered) d.name r.source) d.wrote.es r.wrote.es
-        (sym d.wrote.begun ∙ (r.wrote.wrote ∙ ap (λ (l : List Entry). l ++ r.wrote.es) r.entries)) in
-        run_counted g h m d.name d.choice d.entered d.ended es enters r closes x (subst (In x) same i)
+  blames_none : (e : Exit) (d : HasEnded g h m p words e) → ((x : Entry) → In x d.wrote.es → IsNoFailure x) → BlamesNoCall g h m d.entered d.name d.ordered d.stack e
+  blames_none exit.Done d none = tt
+  blames_none (exit.RolledBack k) d none = blames_back g h m d.name d.entered d.wrote.es d.stack none d.ordered k d.because
+  blames_none (exit.Failed blamed) d none = narrowed_at g h m d.name d.entered d.wrote.es d.stack none d.ordered blamed d.because.1
+  blames_none exit.BadWords d none = absurd d.because
+  blames_none exit.SinkFault d none = absurd d.because
+  blames_none exit.LibraryFault d none = absurd d.because
+  blames_none exit.DiskFault d none = absurd d.because
+  blames_none exit.NoMemory d none = absurd d.because
+  blames_none (exit.TemplateRefused f) d none = absurd d.because
+  blames_none (exit.StackRefused f) d none = absurd d.because
+  blames_none (exit.NotAJournal offset) d none = absurd d.because
+  blames_none (exit.LaneMissing lane) d none = absurd d.because
+  blames_none (exit.LaneTwice lane) d none = absurd d.because
+  blames_none (exit.LaneAhead lane f epoch) d none = absurd d.because
+  blames_none (exit.LaneFault lane) d none = absurd d.because
+  blames_none (exit.Full long need room) d none = absurd d.because
 
   module _ (same : map (λ (l : LaneNow). l.name) (handed_in h m.handlers') ≡ map (λ (l : LaneNow). l.name) (handed_in h m.handlers)) where
-    otherwise : (result : Exit) (said : List ℕ × Choice) → Says g h m p words result → deploy_words words ≡ Some said → NoCountRose g h m p
-        → EndsUnfailed g h m p words result ⊎ ((result ≡ exit.NoMemory) ⊎ IsRefusal result)
-    otherwise exit.Done said s w c = inl (unfailed g h m p c words exit.Done s (counted_all exit.Done s) same)
-    otherwise (exit.RolledBack cause) said s w c = inl (unfailed g h m p c words (exit.RolledBack cause) s (counted_all (exit.RolledBack cause) s) same)
-    otherwise (exit.Failed blamed) said s w c = inl (unfailed g h m p c words (exit.Failed blamed) s (counted_all (exit.Failed blamed) s) same)
+    unfailed : NoCountRose g h m p → (e : Exit) → HasEnded g h m p words e → EndsWithoutFailure g h m p words e
+    unfailed c e d = by d.was.enters where
+      by : HasEntered g h m d.entered → EndsWithoutFailure g h m p words e
+      by (es, over, enters, known, room, opens) =
+          let none : (x : Entry) → In x d.wrote.es → IsNoFailure x = λ x i. no_failure g h m p c same (over.0).differ d.ended.entries x (d.counted x i) in
+          (d, none, blames_none e d none)
+
+    otherwise : (result : Exit) (said : List ℕ × Task) → Says g h m p words result → task_words words ≡ Some said → NoCountRose g h m p
+        → EndsWithoutFailure g h m p words result ⊎ ((result ≡ exit.NoMemory) ⊎ IsRefusal result)
+    otherwise exit.Done said s w c = inl (unfailed c exit.Done s)
+    otherwise (exit.RolledBack cause) said s w c = inl (unfailed c (exit.RolledBack cause) s)
+    otherwise (exit.Failed blamed) said s w c = inl (unfailed c (exit.Failed blamed) s)
     otherwise exit.NoMemory said s w c = inr (inl refl)
     otherwise exit.BadWords said s w c = absurd (no_words g h words said w s.0)
     otherwise exit.SinkFault said s w c = absurd (c.sink s.0)
-    otherwise exit.LibraryFault said s w c = absurd (library_rose g h m p c s.name s.choice s.ran)
-    otherwise exit.DiskFault said s w c = absurd (disk_fault g h m p c s.name s.choice s.ran)
-    otherwise (exit.LaneFault lane) said s w c = absurd (lane_rose g h m p c s.name s.choice lane s.ran)
+    otherwise exit.LibraryFault said s w c = absurd (library_rose g h m p c s.name s.what s.ran)
+    otherwise exit.DiskFault said s w c = absurd (disk_fault g h m p c s.name s.what s.ran)
+    otherwise (exit.LaneFault lane) said s w c = absurd (lane_rose g h m p c s.name s.what lane s.ran)
     otherwise (exit.TemplateRefused f) said s w c = inr (inr tt)
     otherwise (exit.StackRefused f) said s w c = inr (inr tt)
     otherwise (exit.NotAJournal offset) said s w c = inr (inr tt)
@@ -670,7 +738,7 @@ module _ {D H : Type 0} (g : DiskGhosts D) (h : HandlerGhosts H) (stay : Stays g
       let same : map named_as (handed_in h m.handlers') ≡ map named_as (handed_in h m.handlers) = (kept_alone g h m p words result t).same in
       record {
         says = s;
-        no_deploy = no_deploy g h m p words result s;
+        no_task = no_task g h m p words result s;
         otherwise = λ said w c. otherwise (same_names_now (handed_in h m.handlers) (handed_in h m.handlers') same) result said s w c;
-        refuses = λ name choice texts e said told forbids. refuses g h m p words name choice texts e said told forbids result s;
+        refuses = λ name what e said forbids. refuses g h m p words name what e said forbids result s;
       }

@@ -15,16 +15,15 @@ use Rattle.cf_face.specs.declared.exit.Exit.{Exit}
 use Rattle.cf_face.specs.declared.exit.Exit.TheVariants as exit
 use Rattle.cf_face.specs.declared.exit.Refusal.{Refusal}
 use Rattle.cf_face.specs.declared.exit.Refusal.TheVariants.{Read, Plan}
-use Rattle.cf_face.specs.Exit.{exit_line}
+use Rattle.cf_face.specs.Exit.{ending_text}
 use Rattle.cf_face.specs.Words.{command_of, drives}
 use Rattle.cf_face.specs.Print.{PrintTells}
 use Rattle.cf_disk.specs.declared.disk.Disk.{Ghosts as DiskGhosts}
 use Rattle.cf_handler.specs.declared.handler.Handler.{Ghosts as HandlerGhosts}
 use Rattle.cf_book.specs.Record.{world_left}
-use Rattle.cf_top.specs.Crash.{IsAsBefore}
+use Rattle.cf_top.specs.Crash.{WroteNothing}
 use Rattle.cf_top.specs.Opening.{HasOpenCause, Holds}
-use Rattle.cf_top.specs.Refusals.{IsMiss}
-use Rattle.cf_top.specs.Deployment.{LibraryUse, IsUnasked}
+use Rattle.cf_top.specs.Refusals.{IsMiss, IsUnasked, LibraryUse}
 use Rattle.cf_top.specs.Outside.{NothingTouched, Outside, Printing}
 use Rattle.cf_top.specs.Telling.{described_text, described_exit}
 use Rattle.cf_top.specs.Alone.{IsAnswered}
@@ -63,7 +62,7 @@ DescribesIn name p st result = Prints p (described_text name st) (described_exit
 abbrev pub Describes : Bool → List ℕ → List ℕ → ℕ → ℕ → Printing → List ℕ → Exit → Type 0
 Describes tells bytes bytes' faults faults' p name result =
     ((es : List Entry) × Holds tells bytes es × Holds tells bytes' es × DescribesIn name p (stack_at name (world_left es)) result)
-    ⊎ ((e : Exit) × HasOpenCause tells bytes faults faults' e × Prints p (exit_line e) e result)
+    ⊎ ((e : Exit) × HasOpenCause tells bytes faults faults' e × Prints p (ending_text e) e result)
 
 -- words that are neither a validation nor a description: they ask for nothing, or memory is short
 abbrev pub AsksNothing : List (List ℕ) → Exit → Type 0
@@ -75,15 +74,15 @@ abbrev pub AnswerTells : LibraryUse → Bool → List ℕ → List ℕ → ℕ �
 AnswerTells o tells bytes bytes' faults faults' p words result =
     ((template : List ℕ) × (e : Exit) × (command_of words ≡ Some (Validate template)) × Validates o template e × (bytes' ≡ bytes)
     × (faults' ≡ faults)
-    × Prints p (exit_line e) e result)
+    × Prints p (ending_text e) e result)
     ⊎ (((stack : List ℕ) × (command_of words ≡ Some (Describe stack)) × IsUnasked o × (IsTrue tells → KeepsRecord bytes bytes')
     × Describes tells bytes bytes' faults faults' p stack result)
-    ⊎ ((e : Exit) × AsksNothing words e × IsUnasked o × (bytes' ≡ bytes) × (faults' ≡ faults) × Prints p (exit_line e) e result))
+    ⊎ ((e : Exit) × AsksNothing words e × IsUnasked o × (bytes' ≡ bytes) × (faults' ≡ faults) × Prints p (ending_text e) e result))
 
 -- no lane is called, and a disk that tells its bytes keeps its record, in what a crash may leave too
 abbrev pub KeepsAll : {D H : Type 0} → DiskGhosts D → Outside D H → Type 0
 KeepsAll g m =
-    (m.handlers' ≡ m.handlers) × (IsTrue g.tells → IsAsBefore (g.seen m.disk) (g.seen m.disk') (g.may_leave m.disk) (g.may_leave m.disk'))
+    (m.handlers' ≡ m.handlers) × (IsTrue g.tells → WroteNothing (g.seen m.disk) (g.seen m.disk') (g.may_leave m.disk) (g.may_leave m.disk'))
 
 -- the words are a command that drives no handlers, which is answered and calls no lane; or they are not, and are for one thread alone; or
 -- there was no memory to read them, and nothing was done
@@ -92,4 +91,4 @@ RanAs g h m p words result =
     ((is_asking (command_of words) ≡ true) × KeepsAll g m
     × AnswerTells m.library g.tells (g.seen m.disk) (g.seen m.disk') (g.count m.disk) (g.count m.disk') p words result)
     ⊎ (((is_asking (command_of words) ≡ false) × IsAnswered g h m p words result)
-    ⊎ (NothingTouched m × Prints p (exit_line exit.NoMemory) exit.NoMemory result))
+    ⊎ (NothingTouched m × Prints p (ending_text exit.NoMemory) exit.NoMemory result))

@@ -1,28 +1,12 @@
 -- What a crash may leave of a journal, during a command and after it (this project's own format, docs/JOURNAL.md).
-use Rattle.std.specs.Prelude.{◌≡◌, ◌⊎◌, ℕ, Bool, List, ◌++◌, Option, None, Ok, IsTrue, ⊤}
+use Rattle.std.specs.Prelude.{◌≡◌, ◌⊎◌, ℕ, Bool, List, Option, None, Ok, IsTrue, ⊤}
 use Rattle.cf_disk.specs.Disk.{Only}
 use Rattle.cf_entry.specs.declared.entry.Entry.{Entry}
 use Rattle.cf_journal.specs.Record.{IsOldOrKept, KeepsRecord, record_of}
-use Rattle.cf_book.specs.Record.{HasKnown, with_doubt}
+use Rattle.cf_book.specs.Record.{HasKnown}
 use Rattle.cf_workers.specs.Growing.{Extends}
 use Rattle.cf_face.specs.declared.exit.Exit.{Exit}
 use Rattle.cf_face.specs.declared.exit.Exit.TheVariants as exit
-
--- A file on the way from one to another: its record begins with that of the first, and goes no further than that of the second, or
--- than that with one entry more.
-pub record IsAlong (bytes bytes' file : List ℕ) : Type 0 where
-  pub old : List Entry
-  pub now : List Entry
-  pub last : List Entry
-  pub was : record_of bytes ≡ Ok old
-  pub record_is : record_of file ≡ Ok now
-  pub stays : record_of bytes' ≡ Ok last
-  pub no_shorter : Extends old now
-  pub no_longer : (doubt : Option Entry) × Extends now (with_doubt last doubt)
-
--- what a crash might have left before, or a file along the way
-abbrev pub IsOldOrAlong : (List ℕ → Type 0) → List ℕ → List ℕ → List ℕ → Type 0
-IsOldOrAlong may_leave bytes bytes' file = may_leave file ⊎ IsAlong bytes bytes' file
 
 -- after these answers an entry may be in doubt: the disk failed, or it may have failed and that could not be printed
 abbrev pub MayDoubt : Exit → Type 0
@@ -44,13 +28,13 @@ pub record Survives (bytes bytes' : List ℕ) (may_leave : List ℕ → Type 0) 
   pub each : (file : List ℕ) → may_leave file → HasKnown known doubt file
 
 -- No entry was written: a crash leaves what it might have left before, or the same record.
-pub record IsAsBefore (bytes bytes' : List ℕ) (before may_leave : List ℕ → Type 0) : Type 0 where
+pub record WroteNothing (bytes bytes' : List ℕ) (before may_leave : List ℕ → Type 0) : Type 0 where
   pub kept : KeepsRecord bytes bytes'
   pub each : (file : List ℕ) → may_leave file → IsOldOrKept before bytes file
 
 -- what a crash may leave after a command with this answer
-abbrev pub LeavesAs : List ℕ → List ℕ → (List ℕ → Type 0) → (List ℕ → Type 0) → Exit → Type 0
-LeavesAs bytes bytes' before may_leave e = IsAsBefore bytes bytes' before may_leave ⊎ Survives bytes bytes' may_leave e
+abbrev pub CrashLeaves : List ℕ → List ℕ → (List ℕ → Type 0) → (List ℕ → Type 0) → Exit → Type 0
+CrashLeaves bytes bytes' before may_leave e = WroteNothing bytes bytes' before may_leave ⊎ Survives bytes bytes' may_leave e
 
 -- after an operation that ended, a crash leaves just what a read gives
 abbrev pub Lasts : Bool → List ℕ → (List ℕ → Type 0) → Type 0

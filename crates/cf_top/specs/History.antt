@@ -14,8 +14,8 @@ use Rattle.cf_book.specs.Fences.{handed_in}
 use Rattle.cf_face.specs.declared.exit.Exit.{Exit}
 use Rattle.cf_workers.specs.Agreement.{AreAmong, EachAgrees, all_as_told, at_rest}
 use Rattle.cf_top.specs.Answer.{RanAs}
-use Rattle.cf_top.specs.Deployment.{LibraryUse}
 use Rattle.cf_top.specs.Outside.{Printing}
+use Rattle.cf_top.specs.Refusals.{LibraryUse}
 
 -- the disk, and all the lanes that there are
 pub record Moment (D : Type 0) : Type 0 where
@@ -23,7 +23,7 @@ pub record Moment (D : Type 0) : Type 0 where
   pub all : List Lane
 
 -- after a crash there is a file that the crash might leave, and no other crash will leave another one
-pub record IsLeft {D : Type 0} (g : DiskGhosts D) (old new : D) : Type 0 where
+pub record IsAfterCrash {D : Type 0} (g : DiskGhosts D) (old new : D) : Type 0 where
   pub file : List ℕ
   pub left : g.may_leave old file
   pub stays : Only file (g.may_leave new)
@@ -42,7 +42,7 @@ pub data Passes {D H : Type 0} (g : DiskGhosts D) (h : HandlerGhosts H) (schemas
   command :
       (handlers handlers' : List H) → AreAmong h schemas handlers m.all → IsCommand g h m.disk n.disk handlers handlers'
       → n.all ≡ all_as_told (handed_in h handlers') m.all → Passes g h schemas m n
-  crash : IsLeft g m.disk n.disk → n.all ≡ m.all → Passes g h schemas m n
+  crash : IsAfterCrash g m.disk n.disk → n.all ≡ m.all → Passes g h schemas m n
   late :
       (lane : Lane) (place : ℕ) (settlement : Settlement) → lane_at lane.name m.all ≡ Some lane
       → LateMove lane.name lane.state (late_by place settlement lane.state) place settlement → n.disk ≡ m.disk
@@ -53,7 +53,7 @@ IsHistory g h schemas m [] = Unit {0}
 IsHistory g h schemas m (n ∷ later) = Passes g h schemas m n × IsHistory g h schemas n later
 
 -- a new journal over lanes on which nothing was ever called
-pub record IsNew {D : Type 0} (g : DiskGhosts D) (schemas : List Schema) (m : Moment D) : Type 0 where
+pub record IsNewJournal {D : Type 0} (g : DiskGhosts D) (schemas : List Schema) (m : Moment D) : Type 0 where
   pub empty : (file : List ℕ) → g.may_leave m.disk file → record_of file ≡ Ok []
   pub start : IsStart schemas (at_rest [] m.all)
 
@@ -65,4 +65,4 @@ HistoriesAgree {D} g h =
     → (m : Moment D) → In m later → EachAgrees schemas (g.may_leave m.disk) m.all
 
 abbrev pub NewAgrees : {D : Type 0} → DiskGhosts D → Type 0
-NewAgrees {D} g = (schemas : List Schema) (m : Moment D) → IsNew g schemas m → EachAgrees schemas (g.may_leave m.disk) m.all
+NewAgrees {D} g = (schemas : List Schema) (m : Moment D) → IsNewJournal g schemas m → EachAgrees schemas (g.may_leave m.disk) m.all

@@ -1,11 +1,14 @@
 pub mod Lanes
 pub mod Crash
+pub mod Intended
 pub mod Opening
 pub mod NotYet
 pub mod Refusals
 pub mod Telling
-pub mod Deployment
+pub mod Tasks
+pub mod Performed
 pub mod Outside
+pub mod Ends
 pub mod Alone
 pub mod Answer
 pub mod History

@@ -1,5 +1,5 @@
 -- What opening the journal of a disk comes to (this project's own format, docs/JOURNAL.md).
-use Rattle.std.specs.Prelude.{◌≡◌, ℕ, Bool, List, Result, Ok, Err, IsTrue, ⊤}
+use Rattle.std.specs.Prelude.{◌≡◌, ℕ, Bool, List, Ok, Err, IsTrue, ⊤}
 use Rattle.cf_tree.specs.Counts.{HasRisen}
 use Rattle.cf_entry.specs.declared.entry.Entry.{Entry}
 use Rattle.cf_journal.specs.Record.{record_of}

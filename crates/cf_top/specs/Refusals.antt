@@ -1,5 +1,6 @@
--- What stands in the library under a name, and why it may be refused before anything is made (this project's own).
+-- What is found in the library under a template's name, and why a deployment of it is refused before anything is made (this project's own).
 use Rattle.std.specs.Prelude.{◌≡◌, ℕ, List, [], ◌∷◌, Option, Some, None, Result, Ok, Err, if◌then◌else◌, option_map, ⊤}
+use Rattle.cf_io.specs.Library.{Texts, StandsUnder}
 use Rattle.cf_tree.specs.Counts.{HasRisen}
 use Rattle.cf_tree.specs.declared.source.Source.{Source}
 use Rattle.cf_tree.specs.declared.template.Template.{Template}
@@ -24,7 +25,19 @@ use Rattle.cf_face.specs.declared.exit.Refusal.{Refusal}
 use Rattle.cf_face.specs.declared.exit.Refusal.TheVariants as refusal
 use Rattle.cf_top.specs.NotYet.{is_not_yet}
 
--- what a creation rests on: one template and what is given for its parameters, without imports
+-- a library before and after: its texts, its faults and its misses
+pub record LibraryUse : Type 0 where
+  pub texts : Option Texts
+  pub faults : ℕ
+  pub faults' : ℕ
+  pub misses : ℕ
+  pub misses' : ℕ
+
+-- the library was not asked
+abbrev pub IsUnasked : LibraryUse → Type 0
+IsUnasked o = (o.faults' ≡ o.faults) × (o.misses' ≡ o.misses)
+
+-- what a deployment rests on: one template and what is given for its parameters, without imports
 abbrev pub deployed_source : List ℕ → Choice → List ℕ → Source
 deployed_source stack choice bytes = record {
   root = choice.template;
@@ -60,11 +73,11 @@ template_refusal schemas x stack choice bytes (Ok t) =
     if is_not_yet t then Some (exit.TemplateRefused (refusal.NotYet choice.template)) else option_map exit_of_fault
     (deploy_refusal schemas x stack (deployed_source stack choice bytes))
 
--- Why a new stack of this name is refused, by what was found under the template's name (the order is this project's own). What the
--- stack itself is refused for comes last: in a journal that runs wrote, a stack of which nothing is left holds and exports nothing.
-abbrev pub creation_refusal : List Schema → World → List ℕ → Choice → Option (List ℕ) → Option Exit
-creation_refusal schemas x stack choice None = Some (exit.TemplateRefused (refusal.Plan (TemplateMissing choice.template)))
-creation_refusal schemas x stack choice (Some bytes) = template_refusal schemas x stack choice bytes (template_of bytes)
+-- Why a deployment of the stack of this name is refused, by what was found under the template's name (the order is this project's own).
+-- What the stack is refused for by what it holds, and that nothing changes, comes last.
+abbrev pub deployment_refusal : List Schema → World → List ℕ → Choice → Option (List ℕ) → Option Exit
+deployment_refusal schemas x stack choice None = Some (exit.TemplateRefused (refusal.Plan (TemplateMissing choice.template)))
+deployment_refusal schemas x stack choice (Some bytes) = template_refusal schemas x stack choice bytes (template_of bytes)
 
 -- the exit of a refusal, where there was memory to tell it
 abbrev pub RefusesTemplate : Refusal → Exit → Type 0
@@ -87,3 +100,11 @@ TestsTemplate o P (Err e) = o ≡ Some e
 abbrev pub IsMiss : Option (List ℕ) → ℕ → ℕ → Type 0
 IsMiss None before after = HasRisen before after
 IsMiss (Some bytes) before after = ⊤
+
+-- what was found in the library is refused so
+abbrev pub IsRefusedFor : LibraryUse → List Schema → World → List ℕ → Choice → Exit → Type 0
+IsRefusedFor o schemas x stack choice exit.LibraryFault = HasRisen o.faults o.faults'
+IsRefusedFor o schemas x stack choice exit.NoMemory = ⊤
+IsRefusedFor o schemas x stack choice e =
+    (found : Option (List ℕ)) × StandsUnder o.texts choice.template found × (deployment_refusal schemas x stack choice found ≡ Some e)
+    × IsMiss found o.misses o.misses'

@@ -3,11 +3,13 @@
 #![tactic(auto)]
 
 mod deployment;
+mod doing;
 mod history;
 mod not_yet;
 mod opening;
 mod planning;
 mod refusals;
+mod resuming;
 mod schemas;
 mod telling;
 mod top;

@@ -1,17 +1,14 @@
-//! The entry with which the creation of a stack begins, which is refused where its template can't be made.
-ghost use Rattle.std.specs.Prelude.{◌≡◌, [], ◌∷◌, IfOk, None, Ok, Some, option_map};
+//! What a template orders, which is refused where it can't be made.
+ghost use Rattle.std.specs.Prelude.{◌≡◌, [], ◌∷◌, IfOk, Ok, Some, option_map};
 ghost use Rattle.cf_template.specs.Whole.{template_of};
-ghost use Rattle.cf_entry.specs.declared.entry.Entry.{Entry as Begun};
 ghost use Rattle.cf_prepare.specs.Refusals.{deploy_refusal};
-ghost use Rattle.cf_prepare.specs.declared.wish.Order.TheVariants.{Begin};
 ghost use Rattle.cf_prepare.specs.declared.wish.Wish.TheVariants.{Deploy};
-ghost use Rattle.cf_top.specs.Deployment.{IsBegunBy, existing_status};
-ghost use Rattle.cf_top.specs.Refusals.{TestsTemplate, exit_of_fault, creation_refusal, deployed_source};
+ghost use Rattle.cf_top.specs.Refusals.{TestsTemplate, exit_of_fault, deployment_refusal, deployed_source};
+ghost use Rattle.cf_top.specs.Tasks.{IsDeploymentOf};
 
 use crate::not_yet::is_not_yet;
 use crate::refusals::{not_yet, refused, unread};
 use cf_desired::{Shared, Templates};
-use cf_entry::Entry;
 use cf_face::{Choice, Exit};
 use cf_prepare::{Order, Wish, prepare};
 use cf_schema::Schemas;
@@ -20,25 +17,24 @@ use cf_template::read_template;
 use cf_tree::{Bytes, Pairs, Source, Template, Texts, Txt};
 use std::alloc::{AllocError, Global};
 
-/// The entry with which the creation of a stack of this name begins, over a world in which none bars it, from the bytes that
-/// were found under the template's name.
+/// What a deployment of these bytes orders.
 ///
 /// # Errors
 ///
 /// `TemplateRefused` comes with the first of these: why the bytes are no template; `NotYet` where the template holds what
 /// is not made yet; the first flaw of its plan; the first resource, by path, whose type no lane of the opening has. Then
-/// comes `StackRefused`: a path that is held with another type, an export that another stack has, or that another imports.
-pub fn examine(
+/// comes `StackRefused`: a path that is held with another type, an export that another stack has, or that another imports, or that
+/// nothing changes. `WrongStatus`, which is tested before a template is looked for, comes before the first flaw.
+pub fn check_template(
     alloc: Global,
     world: &World,
     schemas: &Schemas,
     choice: &Choice,
     stack: &Txt,
     bytes: Vec<u8>,
-) -> Result<Entry, Exit>
-    requires free { existing_status stack.now world.now.world ≡ None }
-    ensures { TestsTemplate (creation_refusal schemas.now world.now.world stack.now choice.now (Some bytes.items))
-        (IsBegunBy schemas.now world.now.world stack.now choice.now bytes.items) result }
+) -> Result<Order, Exit>
+    ensures { TestsTemplate (deployment_refusal schemas.now world.now.world stack.now choice.now (Some bytes.items))
+        (IsDeploymentOf schemas.now world.now.world stack.now choice.now bytes.items) result }
 {
     match read_template(alloc, bytes.as_slice()) {
         Ok(template) => {
@@ -56,7 +52,7 @@ pub fn examine(
     }
 }
 
-/// The same of bytes that are a template all of which is made.
+/// What a deployment orders whose bytes are this template, all of which is made.
 fn order_template(
     alloc: Global,
     world: &World,
@@ -65,11 +61,10 @@ fn order_template(
     stack: &Txt,
     bytes: Vec<u8>,
     template: Template,
-) -> Result<Entry, Exit>
-    requires free { existing_status stack.now world.now.world ≡ None }
+) -> Result<Order, Exit>
     requires read { template_of bytes.items ≡ Ok template }
     ensures { TestsTemplate (option_map exit_of_fault (deploy_refusal schemas.now world.now.world stack.now (deployed_source stack.now choice.now bytes.items)))
-        (IsBegunBy schemas.now world.now.world stack.now choice.now bytes.items) result }
+        (IsDeploymentOf schemas.now world.now.world stack.now choice.now bytes.items) result }
 {
     let Ok(templates) = templates_under(alloc, &choice.template, template) else {
         drop(bytes);
@@ -81,27 +76,13 @@ fn order_template(
             drop(wish);
             drop(templates);
             match prepared {
-                Ok(order) => Ok(begun_by(order)),
+                Ok(ordered) => Ok(ordered),
                 Err(fault) => Err(refused(fault)),
             }
         }
         Err(_) => {
             drop(templates);
             Err(Exit::NoMemory)
-        }
-    }
-}
-
-/// The entry that begins what is ordered.
-fn begun_by(order: Order) -> Entry
-    requires { (begun : Begun) × (order ≡ Begin begun) }
-    ensures { order ≡ Begin result }
-{
-    match order {
-        Order::Begin(begun) => begun,
-        other => {
-            drop(other);
-            unreachable!()
         }
     }
 }

@@ -1,17 +1,19 @@
 //! What a command tells of a stack.
-ghost use Rattle.std.specs.Prelude.{◌≡◌, ◌≤◌, ◌++◌, [], if◌then◌else◌, filter, filter_map, IfOk, None, Some};
-ghost use Rattle.std.specs.List.{flat_map};
+ghost use Rattle.std.specs.Prelude.{◌≡◌, ◌≤◌, ◌++◌, ◌&&◌, [], if◌then◌else◌, filter, filter_map, IfOk, None, Some};
+ghost use Rattle.std.specs.List.{flat_map, list_any};
 ghost use Rattle.std.specs.Option.{option_copied};
 ghost use Rattle.cf_tree.specs.Lists.{first_in};
 ghost use Rattle.cf_effect.specs.World.{StackState as Stack, stack_at};
 ghost use Rattle.cf_effect.specs.Operation.{is_of};
 ghost use Rattle.cf_plan.specs.Follow.{failed_in, failed_of};
+ghost use Rattle.cf_face.specs.declared.exit.Exit.TheVariants.{RolledBack};
 ghost use Rattle.cf_face.specs.Print.{PrintTells};
 ghost use Rattle.cf_face.specs.Report.{stack_report};
-ghost use Rattle.cf_top.specs.Telling.{described_exit, described_text, exit_for};
-ghost use Rattle.cf_workers.specs.Turning.{cause_in, cause_of};
+ghost use Rattle.cf_top.specs.Telling.{described_exit, described_text, exit_back, exit_for};
+ghost use Rattle.cf_core.specs.Turned.{cause_in, is_continuation};
+ghost use Rattle.cf_workers.specs.Turning.{cause_of};
 
-use cf_entry::{Cause, Entry, Phase, Status};
+use cf_entry::{Begun, Cause, Entry, Phase, Status};
 use cf_face::{Exit, StackFault, print_exit, put, report};
 use cf_io::Sink;
 use cf_stacks::{HeardEntry, StackState, World};
@@ -88,7 +90,7 @@ fn heard_cause(
 }
 
 /// Why the operation of this number turned back, where these entries say so.
-#[tactic(auto, using(crate::proofs::Told::cause_passed, crate::proofs::Told::cause_found))]
+#[tactic(auto, using(cf_workers::proofs::Told::cause_passed, cf_workers::proofs::Told::cause_found))]
 fn first_cause(
     alloc: Global,
     operation: u64,
@@ -146,7 +148,7 @@ fn add_own_failed(
     }
 }
 
-/// The same of an entry that a stack heard.
+/// Adds the paths that failed as the operation of this number ended, if this entry, which a stack heard, is its end.
 fn add_heard_failed(
     alloc: Global,
     names: &mut Names,
@@ -167,7 +169,7 @@ fn add_heard_failed(
 }
 
 /// The paths that failed as the operation of this number ended, where these entries say so.
-#[tactic(auto, using(crate::proofs::Told::failed_next))]
+#[tactic(auto, using(cf_workers::proofs::Told::failed_next))]
 fn failed_in_all(alloc: Global, operation: u64, entries: &[HeardEntry]) -> Result<Names, AllocError>
     ensures { IfOk result (λ names. names ≡ flat_map failed_in (filter (is_of operation) entries.now)) }
 {
@@ -185,15 +187,78 @@ fn failed_of(alloc: Global, stack: &StackState) -> Result<Names, AllocError>
     failed_in_all(alloc, stack.operation(), stack.entries().as_slice())
 }
 
-/// How a creation ended, by its stack's status.
+/// Whether an entry goes on with a rollback that failed.
+fn is_continuation(entry: &Entry) -> bool
+    ensures { result ≡ is_continuation entry.now }
+{
+    matches!(
+        entry,
+        Entry::Begin {
+            kind: Begun::Continue { .. },
+            ..
+        }
+    )
+}
+
+/// Whether an entry that a stack heard does so in the operation of this number.
+fn is_own_continuation(
+    alloc: Global,
+    operation: u64,
+    heard: &HeardEntry,
+) -> Result<bool, AllocError>
+    ensures { IfOk result (λ b. b ≡ (is_of operation heard.now && is_continuation heard.now)) }
+{
+    match heard.as_entry() {
+        Some(entry) => Ok(is_of(operation, entry) && is_continuation(entry)),
+        None => {
+            let entry = heard.entry(alloc)?;
+            let own = is_of(operation, &entry) && is_continuation(&entry);
+            drop(entry);
+            Ok(own)
+        }
+    }
+}
+
+/// Whether the operation of this number goes on with a rollback that failed, as these entries say.
+#[tactic(auto, using(cf_workers::proofs::Told::continued_next))]
+fn is_continued(alloc: Global, operation: u64, entries: &[HeardEntry]) -> Result<bool, AllocError>
+    ensures { IfOk result (λ b. b ≡ list_any is_continuation (filter (is_of operation) entries.now)) }
+{
+    for heard in entries {
+        if is_own_continuation(alloc, operation, heard)? {
+            return Ok(true);
+        }
+    }
+    Ok(false)
+}
+
+/// Why the stack's last operation was rolled back, as an exit.
+fn rolled_back(alloc: Global, stack: &StackState) -> Result<Exit, AllocError>
+    ensures { IfOk result (λ e. e ≡ RolledBack (cause_of stack.now.stack)) }
+{
+    Ok(Exit::RolledBack {
+        cause: cause_of(alloc, stack)?,
+    })
+}
+
+/// How a rollback ended, which may have been continued.
+fn restored(alloc: Global, stack: &StackState) -> Result<Exit, AllocError>
+    ensures { IfOk result (λ e. e ≡ exit_back stack.now.stack) }
+{
+    if is_continued(alloc, stack.operation(), stack.entries().as_slice())? {
+        Ok(Exit::Done)
+    } else {
+        rolled_back(alloc, stack)
+    }
+}
+
+/// How an operation ended, by its stack's status.
 fn exit_for(alloc: Global, stack: &StackState) -> Result<Exit, AllocError>
     ensures { IfOk result (λ e. e ≡ exit_for stack.now.stack) }
 {
     match stack.status() {
-        Status::CreateComplete => Ok(Exit::Done),
-        Status::RollbackComplete => Ok(Exit::RolledBack {
-            cause: cause_of(alloc, stack)?,
-        }),
+        Status::CreateComplete | Status::UpdateComplete | Status::DeleteComplete => Ok(Exit::Done),
+        Status::RollbackComplete | Status::UpdateRollbackComplete => restored(alloc, stack),
         _ => Ok(Exit::Failed {
             blamed: failed_of(alloc, stack)?,
         }),
@@ -221,7 +286,7 @@ fn tell_stack<K: Sink>(
     }
 }
 
-/// Prints the report on a stack whose creation has ended, and answers how it ended.
+/// Prints the report on a stack whose operation has ended, and answers how it ended.
 fn tell_ended<K: Sink>(alloc: Global, out: &mut K, name: &Txt, stack: &StackState) -> Exit
     ensures faults { K.count out.old ≤ K.count out.new }
     ensures tells { PrintTells (K.held out.old) (K.held out.new) (K.count out.old) (K.count out.new)
@@ -233,7 +298,7 @@ fn tell_ended<K: Sink>(alloc: Global, out: &mut K, name: &Txt, stack: &StackStat
     }
 }
 
-/// Prints the report on the stack of a name whose creation has ended, and answers how it ended.
+/// Prints the report on the stack of a name whose operation has ended, and answers how it ended.
 pub fn tell_over<K: Sink>(alloc: Global, out: &mut K, name: &Txt, world: &World) -> Exit
     requires { (st : Stack) × (stack_at name.now world.now.world ≡ Some st) }
     ensures faults { K.count out.old ≤ K.count out.new }

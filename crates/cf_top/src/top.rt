@@ -2,18 +2,21 @@
 ghost use Rattle.std.specs.Prelude.{◌≡◌, ◌≤◌, ◌^◌, ℕ, List, [], IfOk, IsTrue, None, Some, map, false};
 ghost use Rattle.cf_disk.specs.Disk.{LeavesOnly};
 ghost use Rattle.cf_journal.specs.Record.{IsOldOrKept, KeepsRecord};
-ghost use Rattle.cf_top.specs.Alone.{AloneTells, IsAnswered, deploy_words};
-ghost use Rattle.cf_book.specs.Ended.{ended_in};
+ghost use Rattle.cf_top.specs.Alone.{AloneTells, IsAnswered};
 ghost use Rattle.cf_book.specs.State.{NoneOut};
 ghost use Rattle.cf_face.specs.Words.{command_of};
 ghost use Rattle.cf_workers.specs.Agreement.{KeepsAgreement};
 ghost use Rattle.cf_top.specs.Answer.{AnswerTells, is_asking, RanAs};
-ghost use Rattle.cf_top.specs.Crash.{IsOldOrAlong, LastsWhereOver, LeavesAs};
+ghost use Rattle.cf_workers.specs.Along.{IsOldOrAlong};
+ghost use Rattle.cf_top.specs.Crash.{LastsWhereOver, CrashLeaves};
+ghost use Rattle.cf_top.specs.Intended.{CallsAreIntended};
 ghost use Rattle.cf_top.specs.Opening.{enter_exit};
 ghost use Rattle.cf_effect.specs.World.{StackState as Stack, stack_at};
-ghost use Rattle.cf_top.specs.Outside.{DeploysOn, DeploysOver, TellsOutcome};
+ghost use Rattle.cf_top.specs.Outside.{DoesOn, DoesOver, TellsOutcome};
+ghost use Rattle.cf_workers.specs.Ordering.{IsJustOpened};
+ghost use Rattle.cf_top.specs.Tasks.{task_words};
 
-use crate::deployment::deploy;
+use crate::doing::do_task;
 use crate::opening::world_on;
 use crate::schemas::schemas_of;
 use crate::telling::{describe, tell_over};
@@ -21,7 +24,7 @@ use crate::validation::validate;
 use cf_book::{Book, EnterFault, Refused, enter};
 use cf_disk::Disk;
 use cf_entry::Status;
-use cf_face::{Choice, Command, Exit, print_exit, read_words};
+use cf_face::{Command, Exit, Task, print_exit, read_words};
 use cf_handler::Handler;
 use cf_io::{Library, Sink};
 use cf_schema::Schemas;
@@ -36,19 +39,12 @@ pub struct Ended<D, H> {
     pub lanes: Vec<H>,
 }
 
-/// The stack that the words say to deploy and from what, if that is what they say.
-fn read_deployment(alloc: Global, words: &[Txt]) -> Result<Option<(Txt, Choice)>, NoMemory>
-    ensures { IfOk result (λ named. named ≡ deploy_words words.now) }
+/// The stack that the words say to change and what is to be done with it, if that is what they say.
+fn read_task(alloc: Global, words: &[Txt]) -> Result<Option<(Txt, Task)>, NoMemory>
+    ensures { IfOk result (λ named. named ≡ task_words words.now) }
 {
     match read_words(alloc, words)? {
-        Some(
-            Command::Deploy {
-                stack,
-                template,
-                given,
-            },
-        ) => Ok(Some((stack, Choice { template, given }))),
-        Some(Command::Describe { stack: _ }) | Some(Command::Validate { template: _ }) => Ok(None),
+        Some(command) => Ok(command.into_task()),
         None => Ok(None),
     }
 }
@@ -69,39 +65,39 @@ fn exit_of(fault: EnterFault) -> Exit
     }
 }
 
-/// Prints what came of a deployment: the stack that it left, or the exit.
+/// Prints what came of a task: the stack that it left, or the exit.
 fn tell_outcome<K: Sink>(
     alloc: Global,
     out: &mut K,
     stack: &Txt,
-    deployed: Result<Status, Exit>,
+    done: Result<Status, Exit>,
     world: &World,
 ) -> Exit
-    requires { IfOk deployed (λ _. (st : Stack) × (stack_at stack.now world.now.world ≡ Some st)) }
+    requires { IfOk done (λ _. (st : Stack) × (stack_at stack.now world.now.world ≡ Some st)) }
     ensures { TellsOutcome
         (record { held = K.held out.old; held' = K.held out.new; faults = K.count out.old; faults' = K.count out.new })
-        stack.now world.now.world deployed result }
+        stack.now world.now.world done result }
 {
-    match deployed {
+    match done {
         Ok(_) => tell_over(alloc, out, stack, world),
         Err(exit) => print_exit(alloc, out, exit),
     }
 }
 
-/// Deploys a stack over a book, prints what came of it and closes the book.
-fn deploy_over<L: Library, K: Sink, D: Disk, H: Handler>(
+/// Does a task over a book, prints what came of it and closes the book.
+fn do_over<L: Library, K: Sink, D: Disk, H: Handler>(
     alloc: Global,
     library: &mut L,
     out: &mut K,
     book: Book<D, H>,
     stack: &Txt,
-    choice: &Choice,
+    task: &Task,
 ) -> Ended<D, H>
     requires running { book.stopped ≡ None }
     requires home { NoneOut book.lanes }
-    requires fresh { ended_in book.entries ≡ [] }
+    requires opened { IsJustOpened book.entries }
     ensures same { L.texts library.new ≡ L.texts library.old }
-    ensures tells { DeploysOver D.Disk H.Handler (record {
+    ensures tells { DoesOver D.Disk H.Handler (record {
       texts = L.texts library.old;
       faults = L.count library.old;
       faults' = L.count library.new;
@@ -109,32 +105,32 @@ fn deploy_over<L: Library, K: Sink, D: Disk, H: Handler>(
       misses' = L.missed library.new;
     })
         (record { held = K.held out.old; held' = K.held out.new; faults = K.count out.old; faults' = K.count out.new })
-        book result.disk result.lanes.items stack.now choice.now result.exit }
+        book result.disk result.lanes.items stack.now task.now result.exit }
 {
     let mut book = book;
-    let deployed = deploy(alloc, library, &mut book, stack, choice);
-    let exit = tell_outcome(alloc, out, stack, deployed, book.world());
+    let done = do_task(alloc, library, &mut book, stack, task);
+    let exit = tell_outcome(alloc, out, stack, done, book.world());
     let (disk, lanes) = book.close();
     Ended { exit, disk, lanes }
 }
 
-/// Deploys a stack over the journal of a disk and lanes, and prints what came of it.
-fn deploy_on<L: Library, K: Sink, D: Disk, H: Handler>(
+/// Does a task over the journal of a disk and lanes, and prints what came of it.
+fn recover_and_do<L: Library, K: Sink, D: Disk, H: Handler>(
     alloc: Global,
     library: &mut L,
     out: &mut K,
     disk: D,
     lanes: Vec<H>,
     stack: &Txt,
-    choice: &Choice,
+    task: &Task,
 ) -> Ended<D, H>
     requires least { 16 ≤ D.room_of disk }
     requires most { D.room_of disk ≤ 2 ^ 32 }
     ensures same { L.texts library.new ≡ L.texts library.old }
     ensures room { D.room_of result.disk ≡ D.room_of disk }
     ensures any_moment { IsTrue D.tells → LeavesOnly D.moment D.left_since disk result.disk
-        (IsOldOrAlong (D.may_leave disk) (D.seen disk) (D.seen result.disk)) }
-    ensures tells { DeploysOn D.Disk H.Handler (record {
+        (IsOldOrAlong D.Disk H.Handler disk result.disk lanes.items) }
+    ensures tells { DoesOn D.Disk H.Handler (record {
       library = record {
         texts = L.texts library.old;
         faults = L.count library.old;
@@ -148,10 +144,10 @@ fn deploy_on<L: Library, K: Sink, D: Disk, H: Handler>(
       handlers' = result.lanes.items;
     })
         (record { held = K.held out.old; held' = K.held out.new; faults = K.count out.old; faults' = K.count out.new })
-        stack.now choice.now result.exit }
+        stack.now task.now result.exit }
 {
     match enter(alloc, disk, lanes) {
-        Ok(book) => deploy_over(alloc, library, out, book, stack, choice),
+        Ok(book) => do_over(alloc, library, out, book, stack, task),
         Err(Refused { fault, disk, lanes }) => {
             let exit = print_exit(alloc, out, exit_of(fault));
             Ended { exit, disk, lanes }
@@ -173,7 +169,7 @@ fn run_words<L: Library, K: Sink, D: Disk, H: Handler>(
     ensures same { L.texts library.new ≡ L.texts library.old }
     ensures room { D.room_of result.disk ≡ D.room_of disk }
     ensures any_moment { IsTrue D.tells → LeavesOnly D.moment D.left_since disk result.disk
-        (IsOldOrAlong (D.may_leave disk) (D.seen disk) (D.seen result.disk)) }
+        (IsOldOrAlong D.Disk H.Handler disk result.disk lanes.items) }
     ensures tells { AloneTells D.Disk H.Handler (record {
       library = record {
         texts = L.texts library.old;
@@ -190,8 +186,8 @@ fn run_words<L: Library, K: Sink, D: Disk, H: Handler>(
         (record { held = K.held out.old; held' = K.held out.new; faults = K.count out.old; faults' = K.count out.new })
         words.now result.exit }
 {
-    match read_deployment(alloc, words) {
-        Ok(Some((stack, choice))) => deploy_on(alloc, library, out, disk, lanes, &stack, &choice),
+    match read_task(alloc, words) {
+        Ok(Some((stack, task))) => recover_and_do(alloc, library, out, disk, lanes, &stack, &task),
         Ok(None) => {
             let exit = print_exit(alloc, out, Exit::BadWords);
             Ended { exit, disk, lanes }
@@ -207,37 +203,50 @@ fn run_words<L: Library, K: Sink, D: Disk, H: Handler>(
 /// exit. The disk and the lanes come back, the lanes in their order.
 ///
 /// `deploy STACK TEMPLATE NAME=VALUE ..` creates the stack from the template that the library holds under its name, with these values for
-/// its parameters. Each resource is made once all that it needs is made, with its properties evaluated over the ids and attributes that
-/// are there by then, in the first lane of its type. Where a call is refused, or breaks off three times, or what the template asks for
-/// can't be worked out, all that was made is deleted again. The journal gets an opening with the lanes, a beginning with the template and
-/// what is given, an intent before and an outcome after each call, and an end. It prints the stack that the journal then leaves, and the
-/// exit; every other end prints the line of its exit alone.
+/// its parameters, or updates it by that. Each resource is made once all that it needs is made, with its properties evaluated over the ids
+/// and attributes that are there by then, in the first lane of its type. An update changes a resource in place, or makes a new one where
+/// what differs can't be changed; when all is done it deletes what was replaced and what the template no longer has. Where a call is
+/// refused, or breaks off three times, or what the template asks for can't be worked out, the operation turns back: a creation deletes all
+/// that it made, and an update gives each resource that it changed its properties of before, and then deletes what it made.
+///
+/// `continue-rollback STACK PATH ..` goes on with the rollback of an update that failed, and skips what failed at these paths: that keeps
+/// its id and its properties are not known from then on. `resume STACK` ends the operation that is in progress on the stack, as the command
+/// that began it would have. A call whose outcome is not known is made again under its token, which acts once.
+///
+/// The journal gets an opening with the lanes, a beginning with the template and what is given, an intent before and an outcome after each
+/// call, and an end. It prints the stack that the journal then leaves, and the exit; every other end prints the line of its exit alone, and
+/// before it, where nothing changes, a line that says so.
 ///
 /// The order is: `BadWords` where the words are no such command; the disk is read, `DiskFault` and `NotAJournal`; `LaneTwice` where two
 /// lanes have one name; `LaneMissing` where a resource or an open call is of a lane that is not handed in; the opening is written, `Full`
 /// and `DiskFault`; the fence of each lane is raised, `LaneAhead` where it is not below the opening's number and `LaneFault` where that
-/// breaks off; `WrongStatus` where there is a stack of the name that is neither deleted nor under review; `LibraryFault`;
-/// `TemplateRefused`: the library holds none, it can't be read, it holds what is not made yet, its plan has a flaw, a type has no lane;
-/// any other `StackRefused`; then the beginning, the calls and the end. `Done` comes where the stack is CREATE_COMPLETE, `RolledBack`
-/// where it is ROLLBACK_COMPLETE, with the cause for which it turned back, and `Failed` where it is ROLLBACK_FAILED, with the paths that
-/// its end tells. A handler is such a cause only where a call at its path was refused or broke off and the count of a lane rose; so it is
-/// with each of the paths, and there is one at least, where disk and lanes agreed. `SinkFault` comes where the report could not be printed,
-/// whatever was done. After `Full`, `DiskFault`, `LaneAhead`, `NoMemory` and `SinkFault` the operation may be in progress. The lanes keep
-/// their names and types, the library its texts and the disk its room.
+/// breaks off; `NoStack` where there is none of the name, unless it is deployed; `WrongStatus` where nothing of the kind begins, or goes
+/// on, from its status; `LibraryFault`; `TemplateRefused`: the library holds none, it can't be read, it holds what is not made yet, its
+/// plan has a flaw, a type has no lane; `NotFailed` where a path that is to be skipped did not fail, `TypeChanged`, `ExportTaken`,
+/// `ExportInUse`, `NoChanges`; then the beginning, the calls and the end. `Done` comes where the stack is CREATE_COMPLETE or
+/// UPDATE_COMPLETE, or UPDATE_ROLLBACK_COMPLETE by a continued rollback. `RolledBack` comes where it is ROLLBACK_COMPLETE or else
+/// UPDATE_ROLLBACK_COMPLETE, with the cause for which it turned back, and `Failed` where it is ROLLBACK_FAILED or UPDATE_ROLLBACK_FAILED,
+/// with the paths that its end tells. A handler is such a cause only where a call of the operation at its path was refused or broke off
+/// and the count of a lane rose; so it is with each of the paths, and there is one at least, where disk and lanes agreed. `SinkFault` comes
+/// where the report could not be printed, whatever was done. After `Full`, `DiskFault`, `LaneAhead`, `NoMemory` and `SinkFault` the
+/// operation may be in progress, and can be resumed. The lanes keep their names and types, the library its texts and the disk its room.
 ///
 /// Disk and lanes agree where, whatever file a crash may leave, its record and what the lanes hold are those of a life of the engine, and
 /// each stack keeps what its status promises. A new journal over lanes on which nothing was called agrees. Where they agree as they are
 /// handed in, they agree after each answer, and no lane that was not handed in has changed (`agree`); after `Done`, `RolledBack` and
-/// `Failed` the stack then keeps what the exit says, over the lanes as they are given back: its template is live; or it holds nothing, and
-/// what was made is taken away; or each path that is told failed (`answered`: `promise`); and `LaneAhead` never comes.
+/// `Failed` the stack then keeps what its status promises, over the lanes as they are given back: its template is live; or what was held
+/// before the operation is live, under its old ids and with its old properties unless it is unsure, and nothing else is held; or each path
+/// that is told failed (`answered`: `promise`); and `LaneAhead` never comes.
 ///
 /// After `Done`, `RolledBack` and `Failed` a crash leaves the journal as it is (`lasts`). After each answer it leaves the entries that
 /// were acknowledged, or, where the disk failed, these and the one entry whose append failed; where no entry was written, what it might
 /// have left before the command, or the same record (`leaves`). At each moment of the command a crash leaves what it might have left
-/// before, or the old entries and a first part of the new ones (`any_moment`). As a call is handed out to be made, its intent is in all
-/// that a crash may then leave, and stays there (`answered`). That the call is made after that and not before is no clause of this call,
-/// since a disk and a lane have no clock in common: a lane is called by its lease alone, and a lease is handed out only then (`grant` of
-/// `cf_book`). The room of the disk is from 16 to 4,294,967,296 bytes.
+/// before, or the old entries and a first part of the new ones, behind these at most the one that was being written: the opening with the
+/// lanes that were handed in, or the one that comes next (`any_moment`). Each lane is given back as it was handed in but for its fence and
+/// for the calls in its log. Of each of these calls there was a moment of the command at which its intent was in all that a crash might
+/// leave, and its outcome was not; and in all that a crash might leave from then on the intent is (`intended`). That the call is made after
+/// that moment and not before is no clause of this call, since a disk and a lane have no clock in common: a lane is called by its lease
+/// alone, and a lease is handed out only then (`grant` of `cf_book`). The room of the disk is from 16 to 4,294,967,296 bytes.
 pub fn alone<L: Library, K: Sink, D: Disk, H: Handler>(
     alloc: Global,
     words: &[Txt],
@@ -253,10 +262,11 @@ pub fn alone<L: Library, K: Sink, D: Disk, H: Handler>(
     ensures schemas { map H.schema_of result.lanes.items ≡ map H.schema_of lanes.items }
     ensures room { D.room_of result.disk ≡ D.room_of disk }
     ensures any_moment { IsTrue D.tells → LeavesOnly D.moment D.left_since disk result.disk
-        (IsOldOrAlong (D.may_leave disk) (D.seen disk) (D.seen result.disk)) }
+        (IsOldOrAlong D.Disk H.Handler disk result.disk lanes.items) }
     ensures lasts { LastsWhereOver result.exit D.tells (D.seen result.disk) (D.may_leave result.disk) }
-    ensures leaves { IsTrue D.tells → LeavesAs (D.seen disk) (D.seen result.disk) (D.may_leave disk) (D.may_leave result.disk) result.exit }
+    ensures leaves { IsTrue D.tells → CrashLeaves (D.seen disk) (D.seen result.disk) (D.may_leave disk) (D.may_leave result.disk) result.exit }
     ensures agree { KeepsAgreement D.Disk H.Handler disk lanes.items result.disk result.lanes.items }
+    ensures intended { CallsAreIntended D.Disk H.Handler disk result.disk lanes.items result.lanes.items result.exit }
     ensures answered { IsAnswered D.Disk H.Handler (record {
       library = record {
         texts = L.texts library.old;
@@ -339,6 +349,12 @@ pub fn answer<L: Library, K: Sink, D: Disk>(
                 },
             ),
         ) => print_exit(alloc, out, Exit::BadWords),
+        Ok(Some(Command::ContinueRollback { stack: _, paths: _ })) => print_exit(
+            alloc,
+            out,
+            Exit::BadWords,
+        ),
+        Ok(Some(Command::Resume { stack: _ })) => print_exit(alloc, out, Exit::BadWords),
         Ok(None) => print_exit(alloc, out, Exit::BadWords),
         Err(NoMemory) => print_exit(alloc, out, Exit::NoMemory),
     }
@@ -360,8 +376,8 @@ fn is_asking(alloc: Global, words: &[Txt]) -> Result<bool, NoMemory>
 
 /// Does what the words say: a command that drives handlers goes to `alone`, whatever the number of workers, and one that
 /// doesn't to `answer`, with the lanes' schemas. The conditions and answers are theirs, that disk and lanes agree after each answer
-/// where they agreed before (`agree`), and what a crash may leave after an operation that ended (`lasts`), after each answer (`leaves`)
-/// and at each moment (`any_moment`). What follows of commands one after another, with crashes between them, is `histories_agree`.
+/// where they agreed before (`agree`), that each call had its intent in the journal (`intended`), and what a crash may leave after an
+/// operation that ended (`lasts`), after each answer (`leaves`) and at each moment (`any_moment`). What follows of commands one after another, with crashes between them, is `histories_agree`.
 pub fn cfstack<L: Library, K: Sink, D: Disk + Send, H: Handler + Send>(
     alloc: Global,
     words: &[Txt],
@@ -378,11 +394,12 @@ pub fn cfstack<L: Library, K: Sink, D: Disk + Send, H: Handler + Send>(
     ensures schemas { map H.schema_of result.lanes.items ≡ map H.schema_of lanes.items }
     ensures room { D.room_of result.disk ≡ D.room_of disk }
     ensures any_moment { IsTrue D.tells → LeavesOnly D.moment D.left_since disk result.disk
-        (IsOldOrAlong (D.may_leave disk) (D.seen disk) (D.seen result.disk)) }
+        (IsOldOrAlong D.Disk H.Handler disk result.disk lanes.items) }
     ensures lasts { is_asking (command_of words.now) ≡ false → LastsWhereOver result.exit D.tells (D.seen result.disk)
         (D.may_leave result.disk) }
-    ensures leaves { IsTrue D.tells → LeavesAs (D.seen disk) (D.seen result.disk) (D.may_leave disk) (D.may_leave result.disk) result.exit }
+    ensures leaves { IsTrue D.tells → CrashLeaves (D.seen disk) (D.seen result.disk) (D.may_leave disk) (D.may_leave result.disk) result.exit }
     ensures agree { KeepsAgreement D.Disk H.Handler disk lanes.items result.disk result.lanes.items }
+    ensures intended { CallsAreIntended D.Disk H.Handler disk result.disk lanes.items result.lanes.items result.exit }
     ensures answered { RanAs D.Disk H.Handler (record {
       library = record {
         texts = L.texts library.old;

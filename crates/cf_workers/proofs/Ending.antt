@@ -1,15 +1,16 @@
--- The stack on which a creation begins keeps its operation until the end, which leaves its status there.
+-- The stack on which an operation begins keeps it until the end, which leaves its status there.
 use Rattle.std.proofs.Common.{◌≡◌, ◌⊎◌, inl, inr, ℕ, ◌+◌, ◌<◌, ◌==◌, ◌&&◌, Bool, true, false, cond, List, [], ◌∷◌, ◌++◌, Option, Some, None, find, refl, sym, ◌∙◌, ap, subst, arith}
 use Rattle.std.specs.Cmp.{first_so}
+use Rattle.std.specs.Option.{option_map_or}
 use Rattle.std.proofs.lemmas.Bool.{eq-eqb, eqb-true}
+use Rattle.cf_tree.specs.Keys.{put, value_at}
 use Rattle.cf_tree.specs.Lists.{In}
 use Rattle.cf_tree.specs.declared.request.Request.{Request}
-use Rattle.cf_tree.specs.declared.source.Source.{Source}
 use Rattle.cf_tree.proofs.Lookups.{put_here}
 use Rattle.cf_disk.specs.declared.disk.Disk.{Ghosts}
 use Rattle.cf_schema.specs.declared.described.Schema.{Schema}
 use Rattle.cf_entry.proofs.Codec.{some_is}
-use Rattle.cf_entry.specs.declared.entry.Begun.TheVariants as begin
+use Rattle.cf_entry.specs.declared.entry.Begun.{Begun}
 use Rattle.cf_entry.specs.declared.entry.Entry.{Entry}
 use Rattle.cf_entry.specs.declared.entry.Entry.TheVariants as entry
 use Rattle.cf_entry.specs.declared.entry.Reply.{Reply}
@@ -17,6 +18,7 @@ use Rattle.cf_entry.specs.declared.status.Status.{Status}
 use Rattle.cf_entry.specs.declared.turn.Cause.{Cause}
 use Rattle.cf_entry.specs.declared.turn.Phase.{Phase}
 use Rattle.cf_entry.specs.declared.turn.Why.{Why}
+use Rattle.cf_effect.specs.Effect.{leaving}
 use Rattle.cf_effect.specs.Fold.{effect_at, world_after}
 use Rattle.cf_effect.specs.Status.{begun, is_in_progress, turned}
 use Rattle.cf_effect.specs.Words.{pending_of}
@@ -28,8 +30,9 @@ use Rattle.cf_stacks.proofs.Worlds.{found_stands}
 use Rattle.cf_plan.proofs.Frame.{IsOn, found_passes, here_after, none_after, number_is, on_after}
 use Rattle.cf_plan.proofs.Going.{IsLike, like_intended, like_kept, like_replied}
 use Rattle.cf_plan.proofs.RunLists.{is_found_in}
-use Rattle.cf_plan.specs.Follow.{EndsAs}
+use Rattle.cf_plan.specs.Follow.{EndsAs, begins_from}
 use Rattle.cf_plan.specs.Run.{IsOwn}
+use Rattle.cf_core.proofs.Alike.{begins_on as stands_for}
 use Rattle.cf_core.proofs.KeepSound.{stands_in}
 use Rattle.cf_core.proofs.Operations.{begun_operation, left, like_goes, own_operation}
 use Rattle.cf_core.proofs.Statuses.{begun_goes, begun_status, ended_status, turned_goes, turned_status}
@@ -51,36 +54,41 @@ ended_more : (es : List Entry) (e : Entry) → ended_in (es ++ e ∷ []) ≡ wit
 ended_more es e = fold-append with_end [] es (e ∷ [])
 
 -- A beginning: its stack has the operation, and no other one.
-module _ (x : World) (apart : AreApart x) (name : List ℕ) (source : Source) where
+module _ (x : World) (apart : AreApart x) (name : List ℕ) (kind : Begun) (from : begins_from kind (known_stack name x).status ≡ true) where
   abbrev number : ℕ
   number = x.operation + 1
 
-  abbrev creates : Entry
-  creates = entry.Begin number name (begin.Create source)
+  abbrev begins : Entry
+  begins = entry.Begin number name kind
 
   abbrev y : World
-  y = world_after x creates
+  y = world_after x begins
 
   abbrev made : StackState
-  made = (effect_at (x.place + 1) creates (known_stack name x)).stack
+  made = (effect_at (x.place + 1) begins (known_stack name x)).stack
 
   abbrev going : List ℕ × StackState → Bool
   going p = is_going number p.1
 
   apart_after : AreApart y
-  apart_after = stay_apart x creates apart (omega arith)
+  apart_after = stay_apart x begins apart (omega arith)
+
+  stacks_are : y.stacks ≡ put name made x.stacks
+  stacks_are =
+      ap (λ (o : Option (List ℕ × StackState)). (option_map_or (λ (s : List ℕ × StackState). leaving s.0 (effect_at (x.place + 1) begins s.1) x) o x).stacks)
+      (stands_for x number name kind from)
 
   here : stack_at name y ≡ Some made
-  here = put_here name made x.stacks
+  here = ap (value_at name) stacks_are ∙ put_here name made x.stacks
 
   its_number : made.operation ≡ number
-  its_number = begun_operation (x.place + 1) number name (begin.Create source) (known_stack name x)
+  its_number = begun_operation (x.place + 1) number name kind (known_stack name x)
 
   goes : is_going number made ≡ true
   goes =
       ap (λ m. m == number && is_in_progress made.status) its_number
-      ∙ ap (λ st. number == number && is_in_progress st) (begun_status (x.place + 1) name number (begin.Create source) (known_stack name x))
-      ∙ ap (λ b. b && is_in_progress (begun (begin.Create source))) (eq-eqb number number refl) ∙ begun_goes (begin.Create source)
+      ∙ ap (λ st. number == number && is_in_progress st) (begun_status (x.place + 1) name number kind (known_stack name x))
+      ∙ ap (λ b. b && is_in_progress (begun kind)) (eq-eqb number number refl) ∙ begun_goes kind
 
   found : stack_of_operation number y ≡ Some (name, made)
   found = by (is_found_in going y.stacks (name, made) (stands_in name made y.stacks here) goes) where
@@ -231,13 +239,14 @@ module _ {D : Type 0} (g : Ghosts D) (name : List ℕ) (number : ℕ) where
   course_on Course.begins on = on
   course_on {first} {last} (Course.goes {old} course round grows rest) on = round_on old last round (course_on course on)
 
--- where the creation begins
-pub starts_on : {D : Type 0} (g : Ghosts D) (old begun_ : BookNow D) (name : List ℕ) (source : Source) → AreApart (world_left old.entries)
-    → begun_.entries ≡ old.entries ++ entry.Begin ((world_left old.entries).operation + 1) name (begin.Create source) ∷ [] → ended_in old.entries ≡ []
+-- where the operation begins
+pub starts_on : {D : Type 0} (g : Ghosts D) (old begun_ : BookNow D) (name : List ℕ) (kind : Begun) → AreApart (world_left old.entries)
+    → begins_from kind (known_stack name (world_left old.entries)).status ≡ true
+    → begun_.entries ≡ old.entries ++ entry.Begin ((world_left old.entries).operation + 1) name kind ∷ [] → ended_in old.entries ≡ []
     → StaysOn name ((world_left old.entries).operation + 1) begun_
-starts_on g old begun_ name source apart wrote fresh =
+starts_on g old begun_ name kind apart from wrote fresh =
     let n : ℕ = (world_left old.entries).operation + 1 in
-    let e : Entry = entry.Begin n name (begin.Create source) in
-    let s : StackState = made (world_left old.entries) apart name source in
-    quiet g name n old begun_ e wrote (s, subst (λ z. IsOn n name z s) (folded_more empty_world old.entries e) (begins_on (world_left old.entries) apart name source))
+    let e : Entry = entry.Begin n name kind in
+    let s : StackState = made (world_left old.entries) apart name kind from in
+    quiet g name n old begun_ e wrote (s, subst (λ z. IsOn n name z s) (folded_more empty_world old.entries e) (begins_on (world_left old.entries) apart name kind from))
     (ended_more old.entries e ∙ fresh)

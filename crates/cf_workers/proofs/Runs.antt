@@ -21,10 +21,14 @@ use Rattle.cf_book.specs.declared.stop.StopFault.{StopFault}
 use Rattle.cf_workers.specs.declared.drive.Drove.{Drove}
 use Rattle.cf_workers.specs.declared.drive.Drove.TheVariants.{Over, Stopped}
 use Rattle.cf_workers.specs.Growing.{Extends, IsBetween}
-use Rattle.cf_workers.specs.Driving.{AreSameLanes, CallMade, Course, DrivesTo, Grows, IsAtRest, Round, RoundTells, Stops, intended, names_of, step_of}
+use Rattle.cf_workers.specs.Counting.{AreFewIn, calls_in, paths_in}
+use Rattle.cf_workers.specs.Driving.{AreSameLanes, CallMade, Course, DrivesTo, Grows, IsAtRest, Round, RoundTells, Stops, calls_of, intended, names_of, paths_called, step_of, tries_of, tries_with}
 use Rattle.cf_workers.specs.Leading.{Drives, IsStretch, LeadsOn, LeadsWith}
 use Rattle.cf_workers.proofs.Ahead.{never_ahead}
 use Rattle.cf_workers.proofs.Courses.{logs_told, outcomes_told}
+use Rattle.cf_workers.proofs.FewCalls.{are_low, as_few, as_many, as_many_more, few_between, paths_are, paths_more, thrice_more}
+use Rattle.cf_workers.proofs.SoFar.{AreLow, IsSoFar, answered_at, answered_so, begins_so, called_in, lent_so, made_so, round_so}
+use Rattle.cf_workers.proofs.Paths.{of_stack}
 use Rattle.cf_workers.proofs.Tries.{at_most, thrice}
 use Rattle.cf_workers.proofs.Crashes.{extends_doubt, extends_itself, extends_on, grows_on, is_at}
 use Rattle.cf_workers.proofs.Leading.{leads_on}
@@ -86,40 +90,112 @@ pub record IsRun {D : Type 0} (g : Ghosts D) (number : ℕ) (first b : BookNow D
   pub begun : HasBegun b.entries number
   pub stretch : IsStretch g first b
   pub ends : ended_in b.entries ≡ ended_in first.entries
+  pub certain : first.doubt ≡ None
+  pub so_far : AreLow number first.entries → IsSoFar g number first course
+  pub few : AreFewIn first (calls_of course) (paths_called course)
 
 -- before the first round
 pub starts : {D : Type 0} (g : Ghosts D) (only_now : (d : D) (c : List ℕ) → IsTrue g.tells → g.left_since d (g.moment d) c → g.may_leave d c) (number : ℕ) (b : BookNow D)
     → IsAtRest g b → HasBegun b.entries number → IsRun g number b b
-starts g only_now number b rest begun =
-    record { course = Course.begins; rest = rest; begun = begun; stretch = no_stretch g only_now b rest; ends = refl }
+starts g only_now number b rest begun = record {
+  course = Course.begins;
+  rest = rest;
+  begun = begun;
+  stretch = no_stretch g only_now b rest;
+  ends = refl;
+  certain = rest.certain;
+  so_far = begins_so g number b;
+  few = λ schemas life described stands holds paths has. omega arith;
+}
 
 module _ {D : Type 0} (g : Ghosts D) (number : ℕ) (first b c : BookNow D) (run : IsRun g number first b) (more : IsStretch g b c) where
+  whole : IsStretch g first c
+  whole = stretch_on g first b c run.rest.certain run.stretch more
+
+  -- what the run has called so far, in a life that its first book stands for; and a life that its last book stands for
+  module _ (schemas : List Schema) (life : Life) (described : DescribeLanes schemas first.lanes) (stands : StandsFor first life) (holds : HoldsAlways schemas life) where
+    known : life.entries ≡ first.entries
+    known = one_record first life.entries run.certain stands.entries
+
+    so : IsSoFar g number first run.course
+    so = run.so_far (are_low schemas life holds number first.entries known)
+
+    led : LeadsWith schemas life c c.entries
+    led = whole.leads schemas life described stands holds c.entries (inl refl)
+
+    held : HoldsAlways schemas led.after
+    held = (events_hold schemas life led.after led.events holds led.happen).0
+
+  -- the calls are few for their paths, after a round too
+  few_on : (round : Round g number b c) (grows : Grows g b c) (rest : IsAtRest g c)
+      → AreFewIn first (calls_of (Course.goes run.course round grows rest)) (paths_called (Course.goes run.course round grows rest))
+  few_on (Round.moves n e chosen writes other fits wrote lanes) grows rest = run.few
+  few_on (Round.calls made r intends outcome wrote lanes) grows rest = λ schemas life described stands holds.
+      let course : Course g number first c = Course.goes run.course (Round.calls made r intends outcome wrote lanes) grows rest in
+      let so_now = answered_so g number first run.course (so schemas life described stands holds) made r in
+      let (t, at) = answered_at g number first run.course (so schemas life described stands holds) made r in
+      let l = led schemas life described stands holds in
+      as_few (calls_of course) (paths_called course) (called_in course) (as_many course) (paths_are course)
+      (few_between schemas life l.after holds (held schemas life described stands holds) number first.entries (intended made ++ outcome_by made.told r ∷ [])
+      (known schemas life described stands holds) (l.record_is ∙ wrote) made.chosen.0 t at (called_in course) (λ token. tries_with made token (tries_of token run.course))
+      (so_now made.chosen.0 t at) (thrice_more run.course made))
+
+  few_with : (made : CallMade number b.entries b.lanes) → c.entries ≡ intended made
+      → AreFewIn first (calls_of run.course ++ (made.lane.name, made.told) ∷ []) (paths_called run.course ++ made.path ∷ [])
+  few_with made same = λ schemas life described stands holds.
+      let so_now = made_so g number first run.course (so schemas life described stands holds) made in
+      let lent = lent_so g number first run.course (so schemas life described stands holds) made in
+      let l = led schemas life described stands holds in
+      as_few (calls_of run.course ++ (made.lane.name, made.told) ∷ []) (paths_called run.course ++ made.path ∷ [])
+      (called_in run.course ++ (made.path, made.token) ∷ []) (as_many_more run.course made) (paths_more run.course made)
+      (few_between schemas life l.after holds (held schemas life described stands holds) number first.entries (intended made)
+      (known schemas life described stands holds) (l.record_is ∙ same) made.chosen.0 lent.stack lent.stands (called_in run.course ++ (made.path, made.token) ∷ [])
+      (λ token. tries_with made token (tries_of token run.course)) (so_now made.chosen.0 lent.stack lent.stands) (thrice_more run.course made))
+
   -- one round more
   pub goes_on : RoundTells g number b c None → IsRun g number first c
   goes_on (round, rest, begun, same) = record {
     course = Course.goes run.course round more.grows rest;
     rest = rest;
     begun = begun;
-    stretch = stretch_on g first b c run.rest.certain run.stretch more;
+    stretch = whole;
     ends = same ∙ run.ends;
+    certain = run.certain;
+    so_far = λ low. round_so g number first run.course (run.so_far low) round more.grows rest same;
+    few = few_on round more.grows rest;
   }
+
+  -- the same course, where the book is still
+  still_so : IsStill b c → IsAtRest g c → (course : Course g number first c) × AreFewIn first (calls_of course) (paths_called course)
+  still_so s rest =
+      subst (λ z. (course : Course g number first z) × AreFewIn first (calls_of course) (paths_called course))
+      (sym (same_book b c s run.rest.running rest.running)) (run.course, run.few)
 
   -- it comes to its end, or stops
   pub comes_to : (drove : Drove) → RoundTells g number b c (Some drove) → DrivesTo g number first c drove
   comes_to (Over status) (rest, ended, inl (round, last)) = (Course.goes run.course round more.grows rest, rest, ended, inr last)
   comes_to (Over status) (rest, ended, inr (s, stood)) =
-      (subst (Course g number first) (sym (same_book b c s run.rest.running rest.running)) run.course, rest, ended, inl (ap (end_status number) (sym run.ends) ∙ stood))
-  comes_to (Stopped fault) stops = (b, run.course, stops, run.stretch.disk)
+      ((still_so s rest).0, rest, ended, inl (ap (end_status number) (sym run.ends) ∙ stood))
+  comes_to (Stopped fault) stops = (b, run.course, stops, run.stretch.disk, more.grows)
+
+  few_in : (drove : Drove) (tells : RoundTells g number b c (Some drove))
+      → AreFewIn first (calls_in g number first c drove (comes_to drove tells)) (paths_in g number first c drove (comes_to drove tells))
+  unfolding comes_to
+  few_in (Over status) (rest, ended, inl (round, last)) = few_on round more.grows rest
+  few_in (Over status) (rest, ended, inr (s, stood)) = (still_so s rest).1
+  few_in (Stopped fault) (stopped, out, disk, inl before) = run.few
+  few_in (Stopped fault) (stopped, out, disk, inr (made, intends, same, lanes, lacking)) = few_with made same
 
   pub all_of_it : IsAtRest g first → (drove : Drove) → RoundTells g number b c (Some drove) → Drives g number first c drove
   all_of_it rested drove tells = record {
     tells = comes_to drove tells;
-    stretch = stretch_on g first b c run.rest.certain run.stretch more;
+    stretch = whole;
     never_old = λ schemas life described stands holds place fence epoch q.
         let l : LeadsWith schemas life b b.entries = run.stretch.leads schemas life described stands holds b.entries (inl refl) in
         never_ahead g number b c run.rest schemas life l (events_hold schemas life l.after l.events holds l.happen).0 place fence epoch
         (subst (λ d. RoundTells g number b c (Some d)) q tells);
-    calls = λ last course. record { outcomes = outcomes_told course; logs = logs_told rested course; thrice = λ token. thrice g number token course; at_most = at_most g number course };
+    calls = λ last course. record { outcomes = outcomes_told course; logs = logs_told rested course; thrice = λ token. thrice g number token course; at_most = at_most g number course; of_stack = of_stack number last.entries last.lanes };
+    few = few_in drove tells;
   }
 
 -- a round that goes on appends an entry at least
@@ -147,4 +223,4 @@ rested g b running out steady = record { running = running; none_out = out; cert
 -- whatever a run comes to, no call is out then, and the disk is known
 pub back_home : {D : Type 0} (g : Ghosts D) (number : ℕ) (old new : BookNow D) (drove : Drove) → DrivesTo g number old new drove → NoneOut new.lanes × KnowsDisk g new
 back_home g number old new (Over status) (course, rest, ended, how) = (rest.none_out, rest.known)
-back_home g number old new (Stopped fault) (last, course, stops, disk) = (stops.1, stops.2)
+back_home g number old new (Stopped fault) (last, course, stops, disk, grows) = (stops.1, stops.2)

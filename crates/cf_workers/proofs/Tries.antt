@@ -51,7 +51,7 @@ abbrev IsDoubted : ℕ → ℕ → StackState → Type 0
 IsDoubted token tries s = (p : Pending) → In p s.tokens → p.token ≡ token → tries ≤ doubts_of token s
 
 -- the operation is on this stack
-abbrev IsAt : ℕ → List Entry → List ℕ → StackState → Type 0
+abbrev pub IsAt : ℕ → List Entry → List ℕ → StackState → Type 0
 IsAt number es name s = ◌≡◌ {A = Option (List ℕ × StackState)} (stack_of_operation number (world_left es)) (Some (name, s))
 
 abbrev AreDoubted : ℕ → List Entry → ℕ → ℕ → Type 0
@@ -191,16 +191,16 @@ own_doubted s rows told tries a opened bound = by (pending_of told s) refl opene
       omega (arith, enough, more, ledger)
 
 -- the stack as the call is out: as it was, or with its Intent
-record IsLentAt (number : ℕ) (es : List Entry) (name : List ℕ) (s : StackState) (called : ℕ) (repeated : Bool) : Type 0 where
-  stack : StackState
-  stands : IsAt number es name stack
+pub record IsLentAt (number : ℕ) (es : List Entry) (name : List ℕ) (s : StackState) (called : ℕ) (repeated : Bool) : Type 0 where
+  pub stack : StackState
+  pub stands : IsAt number es name stack
   same : repeated ≡ true → stack ≡ s
   keeps : (token tries : ℕ) → IsDoubted token tries s → (called ≡ token → tries ≡ 0) → IsDoubted token tries stack
 
 rows_at : (number : ℕ) (es : List Entry) (name : List ℕ) (s : StackState) → IsAt number es name s → EachHasRow s
 rows_at number es name s at = rows_left es (name, s) (found_one (λ (p : List ℕ × StackState). is_going number p.1) (world_left es).stacks (name, s) at).0
 
-lent_at : (number : ℕ) (es : List Entry) (name : List ℕ) (s : StackState) → IsAt number es name s → (path lane : List ℕ) (token : ℕ) (r : Request) (b : Bool)
+pub lent_at : (number : ℕ) (es : List Entry) (name : List ℕ) (s : StackState) → IsAt number es name s → (path lane : List ℕ) (token : ℕ) (r : Request) (b : Bool)
     → IsLentAt number (with_doubt es (entry_for number (next.Step path lane token r b))) name s token b
 lent_at number es name s at path lane token r true = record { stack = s; stands = at; same = λ q. refl; keeps = λ t tries d n. d }
 lent_at number es name s at path lane token r false =

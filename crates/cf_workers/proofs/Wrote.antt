@@ -17,15 +17,17 @@ use Rattle.cf_entry.specs.declared.entry.Entry.{Entry}
 use Rattle.cf_entry.specs.declared.entry.Entry.TheVariants as entry
 use Rattle.cf_entry.specs.declared.entry.Reply.{Reply}
 use Rattle.cf_entry.specs.declared.entry.Reply.TheVariants as reply
-use Rattle.cf_effect.specs.World.{StackState, World, empty_world, stack_of_operation}
+use Rattle.cf_effect.specs.World.{StackState, World, empty_world, is_going, stack_of_operation}
 use Rattle.cf_effect.specs.Fold.{fold_of, world_after}
-use Rattle.cf_lane.specs.Calling.{Granted, IsCalled}
+use Rattle.cf_lane.specs.Calling.{Granted, IsCalled, granted_in}
 use Rattle.cf_lane.specs.Lanes.{LaneNow}
 use Rattle.cf_lane.specs.declared.told.Told.{Told}
+use Rattle.cf_effect.specs.declared.held.Pending.{Pending}
 use Rattle.cf_plan.proofs.Causing.{in_either}
+use Rattle.cf_plan.proofs.CreatedStays.{found_one}
 use Rattle.cf_plan.proofs.Differ.{one_id}
 use Rattle.cf_plan.proofs.Listed.{bytes_same, same_bytes}
-use Rattle.cf_plan.proofs.RunLists.{in_one}
+use Rattle.cf_plan.proofs.RunLists.{in_front, in_one}
 use Rattle.cf_plan.specs.Run.{IsOwn}
 use Rattle.cf_next.specs.Chosen.{IsNext, entry_for, leases_of, schemas_of}
 use Rattle.cf_next.specs.declared.home.Home.{Home}
@@ -36,9 +38,9 @@ use Rattle.cf_book.specs.Granting.{ComesNext}
 use Rattle.cf_book.specs.Record.{with_doubt, world_left}
 use Rattle.cf_book.specs.State.{BookLane, BookNow, at_home, come_home, home_of, with_lane}
 use Rattle.cf_workers.specs.Driving.{AreSameLanes, CallMade, Course, IsAtRest, IsIntended, IsOutcome, Round, intended, name_and_schema, names_of, step_of}
-use Rattle.cf_workers.specs.Turning.{IsCountedOn}
+use Rattle.cf_workers.specs.Turning.{IsCountedAsSent, IsCountedOn, IsSentTo}
 use Rattle.cf_workers.proofs.Driven.{none_leased, same_home}
-use Rattle.cf_workers.proofs.Failing.{some_same}
+use Rattle.cf_core.proofs.{Failing.some_same, Sent.intents_told}
 use Rattle.cf_workers.proofs.Leading.{same_names}
 
 -- the entry is the step that comes next in the operation, or an outcome in it while it goes on
@@ -184,6 +186,19 @@ counted_more a b c d h k (entry.Phase number p cause) i = tt
 counted_more a b c d h k (entry.Done number state failed) i = tt
 counted_more a b c d h k (entry.ChangeSet number name source rows outputs) i = tt
 
+-- and so of the lane that its call went out to, whatever entries join
+pub sent_more : (a b c d : List LaneNow) → AreLater a b → AreLater c d → (es fs : List Entry) → ((x : Entry) → In x es → In x fs) → (e : Entry) → IsCountedAsSent b c es e
+    → IsCountedAsSent a d fs e
+sent_more a b c d h k es fs more (entry.Outcome number token r before after) (lane, (n, path, q, i), on) =
+    (lane, (n, path, q, more (entry.Intent n token lane path q) i), counted_on a b c d h k lane before after on)
+sent_more a b c d h k es fs more (entry.Opened epoch lanes) i = tt
+sent_more a b c d h k es fs more (entry.Begin number name b') i = tt
+sent_more a b c d h k es fs more (entry.Kept number path physical w) i = tt
+sent_more a b c d h k es fs more (entry.Intent number token lane path r) i = tt
+sent_more a b c d h k es fs more (entry.Phase number p cause) i = tt
+sent_more a b c d h k es fs more (entry.Done number state failed) i = tt
+sent_more a b c d h k es fs more (entry.ChangeSet number name source rows outputs) i = tt
+
 -- a call that came home: its lane's count is that of after, and no other lane changes
 module _ (was after : LaneNow) (named : after.name ≡ was.name) (rose : was.count ≤ after.count) where
   abbrev Alone : List BookLane → Type 0
@@ -205,7 +220,7 @@ module _ (was after : LaneNow) (named : after.name ≡ was.name) (rose : was.cou
   home_there (b ∷ bs) alone (there i) = there (home_there bs (λ a j. alone a (there j)) i)
   home_there [] alone i = elim i [ ]
 
-lane_in : (lanes : List BookLane) (b : BookLane) → In b lanes → In b.lane (lanes_in lanes)
+pub lane_in : (lanes : List BookLane) (b : BookLane) → In b lanes → In b.lane (lanes_in lanes)
 lane_in (c ∷ cs) b here = here
 lane_in (c ∷ cs) b (there i) = there (lane_in cs b i)
 lane_in [] b i = elim i [ ]
@@ -224,6 +239,7 @@ pub record HasWritten {D : Type 0} (g : Ghosts D) (number : ℕ) (first last : B
   pub wrote : last.entries ≡ first.entries ++ es
   pub steps : AreSteps (schemas_of (map home_of first.lanes)) number (world_left first.entries) es
   pub counted : (e : Entry) → In e es → IsCounted (lanes_in first.lanes) (lanes_in last.lanes) e
+  pub sent : (e : Entry) → In e es → IsCountedAsSent (lanes_in first.lanes) (lanes_in last.lanes) last.entries e
   pub later : AreLater (lanes_in first.lanes) (lanes_in last.lanes)
   pub same : AreSameLanes first.lanes last.lanes
   pub rest : IsAtRest g last
@@ -237,6 +253,14 @@ uncounted was now number (next.Turn p cause) e q = subst (IsCounted was now) (so
 uncounted was now number (next.End state failed) e q = subst (IsCounted was now) (some_same q) tt
 uncounted was now number next.Wait e q = let no : ⊥ = cc in absurd no
 
+unsent : (was now : List LaneNow) (es : List Entry) (number : ℕ) (n : Next) (e : Entry) → entry_for number n ≡ Some e → IsCountedAsSent was now es e
+unsent was now es number (next.Step path lane token r true) e q = let no : ⊥ = cc in absurd no
+unsent was now es number (next.Step path lane token r false) e q = subst (IsCountedAsSent was now es) (some_same q) tt
+unsent was now es number (next.Keep path physical w) e q = subst (IsCountedAsSent was now es) (some_same q) tt
+unsent was now es number (next.Turn p cause) e q = subst (IsCountedAsSent was now es) (some_same q) tt
+unsent was now es number (next.End state failed) e q = subst (IsCountedAsSent was now es) (some_same q) tt
+unsent was now es number next.Wait e q = let no : ⊥ = cc in absurd no
+
 module _ {D : Type 0} (g : Ghosts D) (number : ℕ) (first : BookNow D) where
   abbrev schemas : List Schema
   schemas = schemas_of (map home_of first.lanes)
@@ -247,6 +271,7 @@ module _ {D : Type 0} (g : Ghosts D) (number : ℕ) (first : BookNow D) where
     wrote = sym (append-nil first.entries);
     steps = tt;
     counted = λ e i. elim i [ ];
+    sent = λ e i. elim i [ ];
     later = never_fell (lanes_in first.lanes);
     same = refl;
     rest = rest;
@@ -264,6 +289,12 @@ module _ {D : Type 0} (g : Ghosts D) (number : ℕ) (first : BookNow D) where
         steps_more schemas number (world_left first.entries) h.es e h.steps
         (step_next schemas number (fold_of (world_left first.entries) h.es) n e (comes_here n c) q)
 
+    -- what was sent and counted before, as entries join
+    still_sent : (es : List Entry) → ((x : Entry) → In x old.entries → In x es) → (e : Entry) → In e h.es → IsCountedAsSent (lanes_in first.lanes) (lanes_in old.lanes) es e
+    still_sent es more e i =
+        sent_more (lanes_in first.lanes) (lanes_in first.lanes) (lanes_in old.lanes) (lanes_in old.lanes) (never_fell (lanes_in first.lanes)) (never_fell (lanes_in old.lanes))
+        old.entries es more e (h.sent e i)
+
     -- a step is written
     moved : (n : Next) (e : Entry) → ComesNext old.lanes old.entries number n → entry_for number n ≡ Some e → new.entries ≡ old.entries ++ e ∷ [] → new.lanes ≡ old.lanes
         → IsAtRest g new → HasWritten g number first new
@@ -274,6 +305,11 @@ module _ {D : Type 0} (g : Ghosts D) (number : ℕ) (first : BookNow D) where
       counted = λ f i. subst (λ (ls : List BookLane). IsCounted (lanes_in first.lanes) (lanes_in ls) f) (sym lanes) (elim (in_either f h.es (e ∷ []) i) [
         | inl j ↦ h.counted f j
         | inr j ↦ subst (IsCounted (lanes_in first.lanes) (lanes_in old.lanes)) (sym (in_one f e j)) (uncounted (lanes_in first.lanes) (lanes_in old.lanes) number n e q)
+      ]);
+      sent = λ f i. subst (λ (ls : List BookLane). IsCountedAsSent (lanes_in first.lanes) (lanes_in ls) new.entries f) (sym lanes) (elim (in_either f h.es (e ∷ []) i) [
+        | inl j ↦ still_sent new.entries (λ x k. subst (In x) (sym w) (in_front x old.entries (e ∷ []) k)) f j
+        | inr j ↦ subst (IsCountedAsSent (lanes_in first.lanes) (lanes_in old.lanes) new.entries) (sym (in_one f e j))
+            (unsent (lanes_in first.lanes) (lanes_in old.lanes) new.entries number n e q)
       ]);
       later = subst (λ (ls : List BookLane). AreLater (lanes_in first.lanes) (lanes_in ls)) (sym lanes) h.later;
       same = ap (map name_and_schema) lanes ∙ h.same;
@@ -286,9 +322,10 @@ module _ {D : Type 0} (g : Ghosts D) (number : ℕ) (first : BookNow D) where
       pub is : with_doubt old.entries o ≡ first.entries ++ mid
       pub steps : AreSteps schemas number (world_left first.entries) mid
       pub counted : (e : Entry) → In e mid → IsCounted (lanes_in first.lanes) (lanes_in old.lanes) e
+      pub sent : (e : Entry) → In e mid → IsCountedAsSent (lanes_in first.lanes) (lanes_in old.lanes) (with_doubt old.entries o) e
 
     mid_of : (n : Next) (o : Option Entry) → ComesNext old.lanes old.entries number n → entry_for number n ≡ o → IsMid o
-    mid_of n None c q = record { mid = h.es; is = h.wrote; steps = h.steps; counted = h.counted }
+    mid_of n None c q = record { mid = h.es; is = h.wrote; steps = h.steps; counted = h.counted; sent = h.sent }
     mid_of n (Some e) c q = record {
       mid = h.es ++ e ∷ [];
       is = ap (λ l. l ++ e ∷ []) h.wrote ∙ append_assoc first.entries h.es (e ∷ []);
@@ -296,6 +333,11 @@ module _ {D : Type 0} (g : Ghosts D) (number : ℕ) (first : BookNow D) where
       counted = λ f i. elim (in_either f h.es (e ∷ []) i) [
         | inl j ↦ h.counted f j
         | inr j ↦ subst (IsCounted (lanes_in first.lanes) (lanes_in old.lanes)) (sym (in_one f e j)) (uncounted (lanes_in first.lanes) (lanes_in old.lanes) number n e q)
+      ];
+      sent = λ f i. elim (in_either f h.es (e ∷ []) i) [
+        | inl j ↦ still_sent (old.entries ++ e ∷ []) (λ x k. in_front x old.entries (e ∷ []) k) f j
+        | inr j ↦ subst (IsCountedAsSent (lanes_in first.lanes) (lanes_in old.lanes) (old.entries ++ e ∷ [])) (sym (in_one f e j))
+            (unsent (lanes_in first.lanes) (lanes_in old.lanes) (old.entries ++ e ∷ []) number n e q)
       ];
     }
 
@@ -348,6 +390,28 @@ module _ {D : Type 0} (g : Ghosts D) (number : ℕ) (first : BookNow D) where
           counted_more (lanes_in first.lanes) (lanes_in old.lanes) (lanes_in new.lanes) (lanes_in new.lanes) h.later (never_fell (lanes_in new.lanes)) outcome
           (cause, (made.lane.name, on_it))
 
+      -- the entries with the Intent, where that is new, stay
+      more : (x : Entry) → In x (intended made) → In x new.entries
+      more x i = subst (In x) (sym w) (in_front x (intended made) (outcome ∷ []) i)
+
+      -- the call is open as it is out, and so has its Intent among the entries, with its lane
+      went_out : IsSentTo new.entries made.told.token made.lane.name
+      went_out =
+          let open_now = intends.durable.open_call in
+          let stands = (found_one (λ (p : List ℕ × StackState). is_going (granted_in made.told).number p.1) (world_left intends.lent.entries).stacks (open_now.name, open_now.stack) open_now.going).0 in
+          let p : Pending = record { token = made.told.token; path = open_now.path; lane = made.lane.name; request = made.told.request } in
+          let intent = intents_told intends.lent.entries (open_now.name, open_now.stack) stands p open_now.pending in
+          let wrote_it : Entry = entry.Intent intent.0 made.told.token made.lane.name open_now.path made.told.request in
+          (intent.0, open_now.path, made.told.request, more wrote_it (subst (In wrote_it) intends.entries intent.1))
+
+      outcome_sent : IsCountedAsSent (lanes_in first.lanes) (lanes_in new.lanes) new.entries outcome
+      outcome_sent = (
+        made.lane.name,
+        went_out,
+        counted_on (lanes_in first.lanes) (lanes_in old.lanes) (lanes_in new.lanes) (lanes_in new.lanes) h.later (never_fell (lanes_in new.lanes))
+            made.lane.name made.told.before made.told.after on_it,
+      )
+
       by : IsMid (entry_for number (step_of made)) → HasWritten g number first new
       by m = record {
         es = m.mid ++ outcome ∷ [];
@@ -356,6 +420,12 @@ module _ {D : Type 0} (g : Ghosts D) (number : ℕ) (first : BookNow D) where
         counted = λ f i. elim (in_either f m.mid (outcome ∷ []) i) [
           | inl j ↦ counted_more (lanes_in first.lanes) (lanes_in first.lanes) (lanes_in old.lanes) (lanes_in new.lanes) (never_fell (lanes_in first.lanes)) one_later f (m.counted f j)
           | inr j ↦ subst (IsCounted (lanes_in first.lanes) (lanes_in new.lanes)) (sym (in_one f outcome j)) outcome_counted
+        ];
+        sent = λ f i. elim (in_either f m.mid (outcome ∷ []) i) [
+          | inl j ↦
+              sent_more (lanes_in first.lanes) (lanes_in first.lanes) (lanes_in old.lanes) (lanes_in new.lanes) (never_fell (lanes_in first.lanes)) one_later (intended made)
+              new.entries more f (m.sent f j)
+          | inr j ↦ subst (IsCountedAsSent (lanes_in first.lanes) (lanes_in new.lanes) new.entries) (sym (in_one f outcome j)) outcome_sent
         ];
         later = later_on (lanes_in first.lanes) (lanes_in old.lanes) (lanes_in new.lanes) h.later one_later;
         same =

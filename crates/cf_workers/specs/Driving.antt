@@ -14,11 +14,16 @@ use Rattle.cf_entry.specs.declared.entry.Reply.{Reply}
 use Rattle.cf_entry.specs.declared.status.Status.{Status}
 use Rattle.cf_journal.specs.Record.{length_of}
 use Rattle.cf_effect.specs.Fold.{is_intent}
+use Rattle.cf_effect.specs.Words.{resources_of}
+use Rattle.cf_effect.specs.World.{StackState}
+use Rattle.cf_effect.specs.declared.held.Held.{Held}
+use Rattle.cf_effect.specs.declared.held.Pending.{Pending}
 use Rattle.cf_lane.specs.Calling.{IsCalled, granted_in}
 use Rattle.cf_lane.specs.Lanes.{LaneNow}
 use Rattle.cf_lane.specs.declared.told.Told.{Told}
 use Rattle.cf_next.specs.Chosen.{entry_for, schemas_of}
 use Rattle.cf_plan.specs.Follow.{MayFollow}
+use Rattle.cf_plan.specs.Forward.{wanted_paths}
 use Rattle.cf_plan.specs.Life.{Life}
 use Rattle.cf_next.specs.declared.step.Next.{Next}
 use Rattle.cf_next.specs.declared.step.Next.TheVariants as next
@@ -158,13 +163,14 @@ pub record EndsWith (es : List Entry) (number : ℕ) (status : Status) : Type 0 
   pub failed : List (List ℕ)
   pub last : es ≡ front ++ entry.Done number status failed ∷ []
 
--- What a run comes to: the operation's end, which is the last entry unless it stood before the run; or what stops the book.
+-- What a run comes to: the operation's end, which is the last entry unless it stood before the run; or what stops the book in the round after
+-- its course, and what a crash leaves in that.
 abbrev pub DrivesTo : {D : Type 0} → Ghosts D → ℕ → BookNow D → BookNow D → Drove → Type 0
 DrivesTo g number old new (Over status) =
     Course g number old new × IsAtRest g new × HasEnd new.entries number status
     × (HasEnd old.entries number status ⊎ EndsWith new.entries number status)
 DrivesTo {D} g number old new (Stopped fault) =
-    (last : BookNow D) × Course g number old last × Stops g number last new fault × KeepsDisk g old last
+    (last : BookNow D) × Course g number old last × Stops g number last new fault × KeepsDisk g old last × Grows g last new
 
 -- One round, after which the run goes on, and no operation has ended in it; or what the run comes to in it.
 abbrev pub RoundTells : {D : Type 0} → Ghosts D → ℕ → BookNow D → BookNow D → Option Drove → Type 0
@@ -181,6 +187,12 @@ calls_of Course.begins = []
 calls_of (Course.goes course (Round.moves n e next writes other fits wrote lanes) grows rest) = calls_of course
 calls_of (Course.goes course (Round.calls made r intends outcome wrote lanes) grows rest) =
     calls_of course ++ (made.lane.name, made.told) ∷ []
+
+-- the path of each of them
+abbrev pub paths_called : {D : Type 0} {g : Ghosts D} {number : ℕ} {first last : BookNow D} → Course g number first last → List (List ℕ)
+paths_called Course.begins = []
+paths_called (Course.goes course (Round.moves n e next writes other fits wrote lanes) grows rest) = paths_called course
+paths_called (Course.goes course (Round.calls made r intends outcome wrote lanes) grows rest) = paths_called course ++ made.path ∷ []
 
 -- the entry begins a phase, or is an operation's end
 abbrev pub ends_phase : Entry → Bool
@@ -222,14 +234,23 @@ pub record HasAnswered (was now : LaneNow) (calls : List Told) : Type 0 where
   pub log : now.log ≡ was.log ++ calls
   pub counts : AreInTurn was.count calls now.count
 
+-- A path of a stack: its template wants the path, a resource of the path is held or made, or was held before the operation, or a call is
+-- open there.
+pub data IsPathOf (s : StackState) (path : List ℕ) : Type 0 where
+  wanted : In path (wanted_paths s) → IsPathOf s path
+  there_is : (h : Held) → In h (resources_of s) → h.path ≡ path → IsPathOf s path
+  there_was : (h : Held) → In h s.before → h.path ≡ path → IsPathOf s path
+  is_open : (p : Pending) → In p s.tokens → p.path ≡ path → IsPathOf s path
+
 -- The outcomes that a course has written are the answers of its calls, in order; each lane's log has the calls that were made on it; and no
--- call was made more than three times in a phase, nor is it so with the one that comes next.
+-- call was made more than three times in a phase, nor is it so with the one that comes next. That one is at a path of its stack.
 pub record TellsCalls {D : Type 0} {g : Ghosts D} {number : ℕ} {first last : BookNow D} (course : Course g number first last) : Type 0 where
   pub outcomes : filter is_outcome last.entries ≡ filter is_outcome first.entries ++ filter_map outcome_in (calls_of course)
   pub logs : (k : ℕ) (was : BookLane) → slice_get first.lanes k ≡ Some was → (now : BookLane) × (slice_get last.lanes k ≡ Some now)
       × HasAnswered was.lane now.lane (calls_on was.lane.name (calls_of course))
   pub thrice : (token : ℕ) → tries_of token course ≤ 3
   pub at_most : (made : CallMade number last.entries last.lanes) → tries_with made made.token (tries_of made.token course) ≤ 3
+  pub of_stack : (made : CallMade number last.entries last.lanes) → IsPathOf made.chosen.1 made.path
 
 -- the same lanes, by name and schema, in the same order
 abbrev pub name_and_schema : BookLane → List ℕ × Schema

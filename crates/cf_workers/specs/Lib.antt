@@ -1,5 +1,9 @@
 pub mod Growing
 pub mod Driving
+pub mod Counting
 pub mod Leading
 pub mod Turning
 pub mod Agreement
+pub mod Ordering
+pub mod Intending
+pub mod Along

@@ -58,11 +58,13 @@ fn drive<D: Disk, H: Handler>(alloc: Global, book: &mut Book<D, H>, number: u64)
 /// every lane at home. No call is out at return.
 ///
 /// `Over` comes exactly where the operation's end stands. Else the book stopped: for want of room or by a fault of the disk as an entry
-/// was written, because a lane has a fence above the opening's epoch, or for want of memory. The operation is in progress then, and each
-/// call that was made has its Intent in the journal. Over a book that had stopped before, what stopped it comes and nothing is done.
+/// was written, because a lane has a fence above the opening's epoch, or for want of memory. After a fault of the disk that entry may be
+/// in the journal or not: if it is the operation's end, the operation may be over. Each call that was made has its Intent in the journal.
+/// Over a book that had stopped before, what stopped it comes and nothing is done.
 ///
 /// Each outcome that is written is the answer of the call that was made then, and each lane's log has its calls in that order, with
-/// counts that follow one another. No call is made more than three times in a phase.
+/// counts that follow one another. A run makes no call more than three times in one phase, and, where journal and lanes agree, at most 54
+/// calls for each path that it calls: a path has at most six tokens in an operation, and an operation at most three phases.
 pub fn drive_alone<D: Disk, H: Handler>(alloc: Global, book: &mut Book<D, H>, number: u64) -> Drove
     requires begun { HasBegun book.old.entries number }
     requires home { NoneOut book.old.lanes }

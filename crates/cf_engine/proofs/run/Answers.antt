@@ -7,7 +7,7 @@ use Rattle.cf_fake.specs.contracts.memory.MemoryHandlerHandler.TheImpl as of_han
 use Rattle.cf_fake.specs.declared.memory.MemoryHandler.{MemoryHandler}
 use Rattle.cf_handler.specs.declared.handler.Handler.{Ghosts as HandlerGhosts}
 use Rattle.cf_face.specs.declared.exit.Exit.{Exit}
-use Rattle.cf_top.specs.Deployment.{LibraryUse}
+use Rattle.cf_top.specs.Refusals.{LibraryUse}
 use Rattle.cf_top.specs.Outside.{Printing}
 use Rattle.cf_top.specs.declared.top.Ended.{Ended}
 use Rattle.cf_engine.specs.Program.{RunsAs}

@@ -1,5 +1,5 @@
 use Rattle.std.proofs.Common.{◌≡◌, drop}
-use Rattle.cf_top.proofs.Told.{first_own}
+use Rattle.cf_workers.proofs.Told.{first_own}
 use Rattle.cf_top.proofs.telling.first_cause.Given as goal
 
 abbrev pub invariant-loop-heard : goal.invariant-loop-heard

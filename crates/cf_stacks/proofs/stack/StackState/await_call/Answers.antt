@@ -21,6 +21,7 @@ invariant_of-self c =
       rooms = rw c.put_room.ensures.items (put_rooms (state_of c.self-2.inside.state) c.self-2.inside.rooms.items c.in_ok-room.room c.self-2.invariant.rooms (subst (λ (s : StackState). IsRoomFor s c.in_ok-room.room) same c.in_ok-room.ensures.room));
       apart = c.self-2.invariant.apart;
       findings = c.self-2.invariant.findings;
+      undoing = c.self-2.invariant.undoing;
     }
 
 pub returns-in-Ok-clause-ok : goal.returns-in-Ok-clause-ok

@@ -1,11 +1,12 @@
-use Rattle.std.proofs.Common.{◌≡◌, ℕ, ◌-◌, List, [], ◌∷◌, ◌++◌, arith, ap, sym, ◌∙◌, map, refl, subst}
+use Rattle.std.proofs.Common.{◌≡◌, ℕ, ◌-◌, List, [], ◌∷◌, ◌++◌, IfSome, arith, ap, sym, ◌∙◌, map, refl, subst}
+use Rattle.cf_effect.specs.Ahead.{AreKept}
+use Rattle.cf_effect.specs.Undoing.{IsUndoing}
 use Rattle.cf_effect.specs.Reply.{intending}
 use Rattle.cf_stacks.specs.Room.{StackStanding, with_awaited}
 use Rattle.cf_stacks.specs.Spare.{HaveOwnTokens, IsRoomFor}
 use Rattle.cf_stacks.specs.Stacked.{token_of_room}
 use Rattle.cf_effect.specs.State.{state_of}
 use Rattle.cf_effect.specs.World.{StackState}
-use Rattle.cf_stacks.proofs.Kept.{calling_found}
 use Rattle.cf_stacks.proofs.Calling.{calling_apart, calling_rooms, heard_so, keeps_like, standing_same}
 use Rattle.cf_stacks.proofs.Kindred.{calls_with, rooms_keep}
 use Rattle.cf_effect.proofs.Spares.{spare_fewer}
@@ -26,15 +27,20 @@ invariant_of-self c =
     let rooms = calling_rooms c.args.parts.call.number c.args.parts.pending s c.self.inside.rooms.items c.args.parts.room c.requires.token c.self.invariant.rooms room in
     let going = ap (λ (t : StackState). t.going) c.hear.ensures.state ∙ ap (λ (t : StackState). t.going) c.intend.ensures.state in
     let before = ap (λ (t : StackState). t.before) c.hear.ensures.state ∙ ap (λ (t : StackState). t.before) c.intend.ensures.state in
-    let made = ap (λ (t : StackState). t.made) c.hear.ensures.state ∙ ap (λ (t : StackState). t.made) c.intend.ensures.state in
-    let held = ap (λ (t : StackState). t.held) c.hear.ensures.state ∙ ap (λ (t : StackState). t.held) c.intend.ensures.state in
     let tokens = ap (λ (t : StackState). t.tokens) c.hear.ensures.state ∙ ap (λ (t : StackState). t.tokens) c.intend.ensures.state in
     record {
       lists = c.hear.ensures.spare _ (c.intend.ensures.spare _ (spare_fewer _ _ c.self.inside.state (omega (arith, spare, c.requires.spare, c.put_room.ensures.len)) c.self.invariant.lists));
       room = omega (arith, spare, c.requires.spare, c.put_room.ensures.len, c.put_room.ensures.capacity, c.self.invariant.room);
       rooms = rw c.put_room.ensures.items (rooms_keep called (state_of c.hear.new.self) _ (keeps_like called (state_of c.hear.new.self) going before tokens) rooms);
       apart = subst HaveOwnTokens (sym tokens) (calling_apart c.args.parts.call.number c.args.parts.pending s c.self.invariant.apart);
-      findings = calling_found c.args.parts.call.number c.args.parts.pending s (state_of c.hear.new.self) c.self.inside.findings made held before going c.self.invariant.findings;
+      findings =
+          subst (λ (t : StackState). IfSome c.follow_call.new.findings (AreKept t))
+          (sym (heard_so _ _ c.args.parts.call.number c.args.parts.pending s c.args.entry c.new.result c.args.parts.line c.intend.ensures.state c.hear.ensures.state c.new.ensures))
+          (c.follow_call.ensures s c.args.parts.call.number (c.args.parts.line ∷ []) c.self.invariant.findings);
+      undoing =
+          subst (λ (t : StackState). IfSome c.follow_try.new.undoing (IsUndoing t))
+          (sym (heard_so _ _ c.args.parts.call.number c.args.parts.pending s c.args.entry c.new.result c.args.parts.line c.intend.ensures.state c.hear.ensures.state c.new.ensures))
+          (c.follow_try.ensures c.args.entry (c.args.parts.line ∷ []));
     }
 
 pub returns : goal.returns

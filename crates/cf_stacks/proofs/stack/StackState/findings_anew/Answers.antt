@@ -5,4 +5,4 @@ use Rattle.cf_stacks.specs.Room.{StackStanding}
 use Rattle.cf_stacks.proofs.stack.StackState.findings_anew.Goals as goal
 
 pub returns : goal.returns
-returns c = subst (λ (s : StackState). IfOk c.findings_of.result (AreFindings s)) (ap (λ (v : StackStanding). v.stack) c.self.view_is) c.findings_of.ensures
+returns c = subst (λ (s : StackState). IfOk c.findings_of.result (AreFindings s)) (ap (λ (v : StackStanding). v.stack) c.self.view_is) c.findings_of.ensures.findings

@@ -14,6 +14,7 @@ invariant_of-self c = record {
   rooms = rw c.forget.ensures.items (rooms_left (state_of c.self.inside.state) c.args.token c.self.inside.rooms.items c.self.invariant.rooms);
   apart = c.self.invariant.apart;
   findings = c.self.invariant.findings;
+  undoing = c.self.invariant.undoing;
 }
 
 pub returns : goal.returns

@@ -21,4 +21,5 @@ invariant_of-self c =
       rooms = rooms_keep (state_of c.self.inside.state) (state_of c.args.state) c.self.inside.rooms.items keeps c.self.invariant.rooms;
       apart = c.requires.apart apart;
       findings = rw c.lose.ensures tt;
+      undoing = rw c.lose_undoing.ensures tt;
     })

@@ -20,4 +20,5 @@ invariant_of-self c =
       rooms = rw c.open.ensures.state (rooms_keep s (effect_at c.args.place c.args.entry s).stack c.self.inside.rooms.items k.0 c.self.invariant.rooms);
       apart = subst (λ (t : StackState). HaveOwnTokens t.tokens) (sym c.open.ensures.state) k.1;
       findings = rw c.lose.ensures tt;
+      undoing = rw c.lose_undoing.ensures tt;
     }

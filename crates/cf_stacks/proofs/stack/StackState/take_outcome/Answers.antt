@@ -1,5 +1,6 @@
 use Rattle.std.proofs.Common.{◌≡◌, ℕ, Bool, true, false, List, Some, None, IfSome, arith, ap, sym, ◌∙◌, find, map, subst}
-use Rattle.cf_effect.specs.Findings.{AreFindings}
+use Rattle.cf_effect.specs.Ahead.{AreKept}
+use Rattle.cf_effect.specs.Undoing.{IsUndoing}
 use Rattle.cf_effect.specs.Fold.{effect_at}
 use Rattle.cf_effect.specs.Bounds.{IsShortOutcomeOf}
 use Rattle.cf_stacks.specs.Room.{StackStanding, has_call, without_awaited}
@@ -33,7 +34,8 @@ invariant_of-self c =
       room = omega (arith, c.in-Some.ensures.len, c.take_room.ensures.capacity, c.self.invariant.room);
       rooms = rw (c.take_outcome.ensures.state, c.take_room.ensures.items) (rooms_keep s (effect_at c.args.place c.args.entry s).stack _ k.0 (rooms_left s c.args.token c.self.inside.rooms.items c.self.invariant.rooms));
       apart = subst (λ (t : StackState). HaveOwnTokens t.tokens) (sym c.take_outcome.ensures.state) k.1;
-      findings = subst (λ (t : StackState). IfSome c.follow.new.findings (AreFindings t)) (sym c.take_outcome.ensures.state) (c.follow.ensures c.args.place);
+      findings = subst (λ (t : StackState). IfSome c.follow.new.findings (AreKept t)) (sym c.take_outcome.ensures.state) (c.follow.ensures c.args.place);
+      undoing = subst (λ (t : StackState). IfSome c.follow_deletion.new.undoing (IsUndoing t)) (sym c.take_outcome.ensures.state) (c.follow_deletion.ensures c.args.place);
     }
 
 pub unreachable-requires : goal.unreachable-requires

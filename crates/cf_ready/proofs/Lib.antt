@@ -1,0 +1,4 @@
+pub mod Halves
+pub mod Counted
+pub mod Ranked
+pub mod Flagged

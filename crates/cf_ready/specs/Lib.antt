@@ -1,0 +1,4 @@
+pub mod Halved
+pub mod Above
+pub mod Smaller
+pub mod Ready

@@ -1,0 +1,119 @@
+-- What a command asks of a stack, what it orders, and why it is refused before anything is written (the order is this project's own; from
+-- which status what may begin is that of the User Guide: stack status codes).
+use Rattle.std.specs.Prelude.{◌≡◌, ℕ, ◌+◌, ◌<◌, List, Option, Some, None, Result, Ok, Err, IsTrue, option_map}
+use Rattle.std.specs.Option.{option_and_then}
+use Rattle.cf_schema.specs.declared.described.Schema.{Schema}
+use Rattle.cf_stacks.specs.Apart.{AreApart}
+use Rattle.cf_io.specs.Library.{StandsUnder}
+use Rattle.cf_effect.specs.World.{World, known_stack}
+use Rattle.cf_plan.specs.Follow.{deploys_from, is_opened_since, lane_kinds}
+use Rattle.cf_prepare.specs.Orders.{IsContinuation, IsDeployment}
+use Rattle.cf_prepare.specs.Prepare.{OrderFollows, PreparesAs}
+use Rattle.cf_prepare.specs.Refusals.{continue_refusal, if_barred, resume_refusal}
+use Rattle.cf_prepare.specs.Resuming.{ResumesAs}
+use Rattle.cf_prepare.specs.declared.wish.Order.{Order}
+use Rattle.cf_prepare.specs.declared.wish.Order.TheVariants as order
+use Rattle.cf_prepare.specs.declared.wish.PrepareFault.{PrepareFault}
+use Rattle.cf_prepare.specs.declared.wish.Wish.{Wish}
+use Rattle.cf_prepare.specs.declared.wish.Wish.TheVariants as wish
+use Rattle.cf_book.specs.Beginning.{IsPrepared}
+use Rattle.cf_face.specs.Words.{command_of, task_of}
+use Rattle.cf_face.specs.declared.exit.Exit.{Exit}
+use Rattle.cf_face.specs.declared.exit.Exit.TheVariants as exit
+use Rattle.cf_face.specs.declared.words.Choice.{Choice}
+use Rattle.cf_face.specs.declared.words.Task.{Task}
+use Rattle.cf_face.specs.declared.words.Task.TheVariants as task
+use Rattle.cf_workers.specs.Ordering.{IsOrderOn}
+use Rattle.cf_top.specs.Refusals.{IsRefusedFor, IsUnasked, LibraryUse, deployed_source, deployment_refusal, exit_of_fault}
+
+-- the stack that the words say to change and what is to be done with it, if that is what they say
+abbrev pub task_words : List (List ℕ) → Option (List ℕ × Task)
+task_words words = option_and_then task_of (command_of words)
+
+-- A deployment is refused for its stack's status before the library is asked; the other tasks for theirs with all else.
+abbrev pub status_refusal : List ℕ → World → Option Exit
+status_refusal name x = option_map exit_of_fault (if_barred deploys_from (known_stack name x))
+
+abbrev pub early_refusal : List ℕ → World → Task → Option Exit
+early_refusal name x (task.Deploy choice) = status_refusal name x
+early_refusal name x _ = None
+
+-- Why nothing was done.
+abbrev pub RefusesDeployment : LibraryUse → List Schema → World → List ℕ → Choice → Option Exit → Exit → Type 0
+RefusesDeployment o schemas x name choice (Some refusal) e = (e ≡ refusal) × IsUnasked o
+RefusesDeployment o schemas x name choice None e = IsRefusedFor o schemas x name choice e
+
+abbrev pub RefusesWish : List Schema → World → Wish → Exit → Type 0
+RefusesWish schemas x w e = (f : PrepareFault) × PreparesAs schemas x w (Err f) × (e ≡ exit_of_fault f)
+
+abbrev pub RefusesTask : LibraryUse → List Schema → World → List ℕ → Task → Exit → Type 0
+RefusesTask o schemas x name (task.Deploy choice) e = RefusesDeployment o schemas x name choice (status_refusal name x) e
+RefusesTask o schemas x name (task.Continue paths) e = RefusesWish schemas x (wish.Continue name paths) e × IsUnasked o
+RefusesTask o schemas x name task.Resume e = RefusesWish schemas x (wish.Resume name) e × IsUnasked o
+
+-- What is ordered where nothing is refused: the beginning of a creation or an update by the template that is found in the library, with
+-- just the exports of other stacks that it uses; that of a continued rollback, which skips the paths that are named; or the operation in
+-- progress.
+pub record DeploysBy (o : LibraryUse) (schemas : List Schema) (x : World) (name : List ℕ) (choice : Choice) (ordered : Order) : Type 0 where
+  pub free : status_refusal name x ≡ None
+  pub bytes : List ℕ
+  pub stands : StandsUnder o.texts choice.template (Some bytes)
+  pub sound : deployment_refusal schemas x name choice (Some bytes) ≡ None
+  pub deploys : IsDeployment schemas x name (deployed_source name choice bytes) ordered
+
+abbrev pub OrdersTask : LibraryUse → List Schema → World → List ℕ → Task → Order → Type 0
+OrdersTask o schemas x name (task.Deploy choice) ordered = DeploysBy o schemas x name choice ordered
+OrdersTask o schemas x name (task.Continue paths) ordered =
+    (continue_refusal x name paths ≡ None) × IsContinuation x name paths ordered × IsUnasked o
+OrdersTask o schemas x name task.Resume ordered =
+    ResumesAs (resume_refusal x name) (lane_kinds x) (known_stack name x) (Ok ordered) × IsUnasked o
+
+-- It may be begun, on that stack, and no two operations have one number.
+pub record IsOrdered (o : LibraryUse) (schemas : List Schema) (x : World) (name : List ℕ) (t : Task) (ordered : Order) : Type 0 where
+  pub apart : AreApart x
+  pub orders : OrdersTask o schemas x name t ordered
+  pub prepared : IsPrepared schemas x ordered
+  pub on_stack : IsOrderOn name x ordered
+
+-- What preparing answers of a wish that rests on no library: what it orders, which may follow, or the exit of what it is refused for.
+abbrev pub IsBare : Wish → Type 0
+IsBare (wish.Continue name paths) = Unit {0}
+IsBare (wish.Resume name) = Unit {0}
+IsBare _ = ⊥
+
+abbrev pub PreparesWish : List Schema → World → Wish → Result Order Exit → Type 0
+PreparesWish schemas x w (Ok ordered) = PreparesAs schemas x w (Ok ordered) × OrderFollows schemas x w ordered
+PreparesWish schemas x w (Err e) = RefusesWish schemas x w e
+
+-- An operation goes on that has a number: one of which there may be more, in entries that no run has written, has none.
+abbrev pub IsNumbered : Order → Type 0
+IsNumbered (order.Resume number) = 0 < number
+IsNumbered _ = Unit {0}
+
+abbrev pub GoesOnBy : Order → Result Order Exit → Type 0
+GoesOnBy ordered (Ok same) = (same ≡ ordered) × IsNumbered ordered
+GoesOnBy ordered (Err e) = e ≡ exit.NoMemory
+
+-- what a deployment of these bytes orders, which may follow
+abbrev pub IsDeploymentOf : List Schema → World → List ℕ → Choice → List ℕ → Order → Type 0
+IsDeploymentOf schemas x name choice bytes ordered =
+    IsDeployment schemas x name (deployed_source name choice bytes) ordered
+    × OrderFollows schemas x (wish.Deploy name (deployed_source name choice bytes)) ordered
+
+-- A rollback goes on only in an opening after the one in which it failed.
+abbrev pub IsOpenedFor : World → List ℕ → Task → Type 0
+IsOpenedFor x name (task.Continue paths) = IsTrue (is_opened_since (known_stack name x))
+IsOpenedFor x name _ = Unit {0}
+
+abbrev pub CanBegin : List Schema → World → List ℕ → Task → Order → Type 0
+CanBegin schemas x name t ordered = AreApart x → IsOpenedFor x name t → IsPrepared schemas x ordered × IsOrderOn name x ordered
+
+-- what is found out of a task that is not refused for a status: what it orders, or why it is refused
+abbrev pub FindsOrder : LibraryUse → List Schema → World → List ℕ → Task → Result Order Exit → Type 0
+FindsOrder o schemas x name t (Ok ordered) = OrdersTask o schemas x name t ordered × CanBegin schemas x name t ordered
+FindsOrder o schemas x name t (Err e) = RefusesTask o schemas x name t e
+
+-- the number of the operation that does a task: the next one, or that of the operation in progress
+abbrev pub number_for : World → List ℕ → Task → ℕ
+number_for x name task.Resume = (known_stack name x).operation
+number_for x name _ = x.operation + 1
