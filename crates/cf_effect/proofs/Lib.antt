@@ -18,3 +18,4 @@ pub mod Readied
 pub mod Followed
 pub mod Undone
 pub mod Ends
+pub mod GivenBack

@@ -2,7 +2,7 @@
 use Rattle.std.proofs.Common.{◌≡◌, ℕ, zero, suc, ◌<◌, ◌≤◌, ◌||◌, inl, inr, Bool, true, false, List, [], ◌∷◌, Option, Some, None, length, map, get_or, position, refl, sym, ◌∙◌, ap, arith, cond, subst, true≢false}
 use Rattle.std.specs.Prelude.{is_some}
 use Rattle.std.specs.List.{list_any, slice_get}
-use Rattle.std.specs.Option.{option_map}
+use Rattle.std.specs.Option.{option_map, option_map_or}
 use Rattle.std.specs.Cmp.{second_so}
 use Rattle.std.specs.Cmp.Lexicographic.{slice_cmp, nat_list_cmp_total}
 use Rattle.std.specs.Ordering.{nat_cmp, ordering_reverse}
@@ -21,6 +21,7 @@ use Rattle.cf_desired.specs.Work.{Member}
 use Rattle.cf_effect.specs.declared.layout.Layout.{Layout}
 use Rattle.cf_effect.specs.declared.layout.Placed.{Placed}
 use Rattle.cf_effect.specs.Ahead.{order_of}
+use Rattle.cf_effect.specs.Following.{stands_at}
 use Rattle.cf_effect.specs.Layout.{AreRows, is_row_of, source_members}
 use Rattle.cf_effect.specs.World.{StackState}
 use Rattle.cf_effect.proofs.Closed.{any_found}
@@ -95,6 +96,14 @@ its_place s l a at row h = a.places row.path ∙ by (position (is_row_of row.pat
       let mine = row_at (source_members s) l a at row h in
       let other = row_at (source_members s) l a k it.0 it.1 in
       ap Some (one_place (source_members s) k at other.0 mine.0 (apart_in s) other.1 mine.1 (sym other.2 ∙ sym ((bytes_eq-Decides row.path it.0.path).0 it.2) ∙ mine.2))
+
+-- a path that stands at a place is found there
+pub near_found : (s : StackState) (l : Layout) (near : ℕ) (path : List ℕ) (so : Bool) → so ≡ stands_at l near path → so ≡ true → AreRows (source_members s) l
+    → Some near ≡ value_at path l.places
+near_found s l near path so told t a = by (slice_get l.rows.items near) refl (sym told ∙ t) where
+  by : (o : Option Placed) → slice_get l.rows.items near ≡ o → option_map_or (λ (r : Placed). bytes_eq r.path path) o false ≡ true → Some near ≡ value_at path l.places
+  by None e h = absurd (true≢false (sym h))
+  by (Some row) e h = sym (ap (λ p. value_at p l.places) (sym ((bytes_eq-Decides row.path path).0 h)) ∙ its_place s l a near row e)
 
 -- the places in the order of names are those of all rows
 pub all_placed : (s : StackState) (l : Layout) → ascends l.places ≡ true → AreRows (source_members s) l → AreAll (length l.rows.items) (order_of l)

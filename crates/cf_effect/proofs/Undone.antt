@@ -204,15 +204,15 @@ are_apart : (places : List (List ℕ × ℕ)) (ids : List (Option (List ℕ))) �
 are_apart places ids a at other id e g = same_Some at other (sym (a at id e) ∙ a other id g)
 
 -- what calls delete is marked
-or_false : (b : Bool) → (b || false) ≡ b
+pub or_false : (b : Bool) → (b || false) ≡ b
 or_false true = refl
 or_false false = refl
 
-or_true : (b : Bool) → (b || true) ≡ true
+pub or_true : (b : Bool) → (b || true) ≡ true
 or_true true = refl
 or_true false = refl
 
-or_further : (a b c : Bool) → ((a || b) || c) ≡ (a || (b || c))
+pub or_further : (a b c : Bool) → ((a || b) || c) ≡ (a || (b || c))
 or_further true b c = refl
 or_further false b c = refl
 
@@ -272,11 +272,11 @@ module _ (number : ℕ) (places : List (List ℕ × ℕ)) where
       ∙ ap (λ b. b || list_any (is_deletion_of number id) cs) (one_marked marks c at id only within)
       ∙ or_further (get_or marks at false) (is_deletion_of number id c) (list_any (is_deletion_of number id) cs)
 
-length_none : (n : ℕ) → length (replicate n false) ≡ n
+pub length_none : (n : ℕ) → length (replicate n false) ≡ n
 length_none zero = refl
 length_none (suc n) = ap suc (length_none n)
 
-none_marked : (n k : ℕ) → get_or (replicate n false) k false ≡ false
+pub none_marked : (n k : ℕ) → get_or (replicate n false) k false ≡ false
 none_marked zero k = refl
 none_marked (suc n) zero = refl
 none_marked (suc n) (suc k) = none_marked n k

@@ -23,3 +23,4 @@ pub mod Laying
 pub mod Following
 pub mod Ahead
 pub mod Undoing
+pub mod Restoring

@@ -39,7 +39,7 @@ impl Layout {
     }
 
     /// Whether a path stands at a place.
-    fn stands_at(&self, at: usize, path: &Txt) -> bool
+    pub fn stands_at(&self, at: usize, path: &Txt) -> bool
         ensures { result ≡ stands_at self.now at path.now }
     {
         match self.row_at(at) {

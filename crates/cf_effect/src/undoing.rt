@@ -157,7 +157,7 @@ fn is_first(places: &ByName<usize>, at: usize, id: &Option<Txt>) -> bool
 
 /// Whether each of these ids is found first at its own place.
 #[tactic(auto, using(crate::proofs::Undone::firsts_first, crate::proofs::Undone::firsts_more, crate::proofs::Undone::firsts_all))]
-fn are_first(ids: &[Option<Txt>], places: &ByName<usize>) -> bool
+pub(crate) fn are_first(ids: &[Option<Txt>], places: &ByName<usize>) -> bool
     ensures { result ≡ true → AreFirst ids.now places.now }
 {
     for (at, id) in ids.iter().enumerate() {
@@ -169,7 +169,7 @@ fn are_first(ids: &[Option<Txt>], places: &ByName<usize>) -> bool
 }
 
 /// Marks a place, where there is one.
-fn mark(marks: &mut Vec<bool>, at: usize)
+pub(crate) fn mark(marks: &mut Vec<bool>, at: usize)
     ensures { marks.new.items ≡ set marks.old.items at true }
 {
     if at < marks.len() {
@@ -329,7 +329,7 @@ fn place_asked(undoing: &Undoing, path: &Txt, request: &Request) -> Option<usize
 }
 
 /// Whether a call is of a stack's operation, and under a token that is not open yet.
-fn is_own(state: &State, number: u64, token: u64) -> bool
+pub(crate) fn is_own(state: &State, number: u64, token: u64) -> bool
     ensures { result ≡ ((number == (state_of state.now).operation) && not (list_any (has_token token) (state_of state.now).tokens)) }
 {
     number == state.operation && !is_open(state.tokens.as_slice(), token)

@@ -19,7 +19,7 @@ use Rattle.cf_face.specs.Words.{is_command_line, is_in_form}
 use Rattle.cf_io.specs.declared.library.Library.{Ghosts as LibraryGhosts}
 use Rattle.cf_workers.specs.Agreement.{Agree, all_as_told}
 use Rattle.cf_top.specs.Answer.{Prints, RanAs}
-use Rattle.cf_top.specs.Refusals.{IsUnasked, LibraryUse}
+use Rattle.cf_top.specs.Refusals.{IsUnasked, LibraryUse, use_of}
 use Rattle.cf_top.specs.Outside.{Printing}
 use Rattle.cf_top.specs.declared.top.Ended.{Ended}
 
@@ -98,16 +98,6 @@ pub record LineTells (g : DiskGhosts MemoryDisk) (h : HandlerGhosts MemoryHandle
 abbrev pub exit_of : Result (Ended MemoryDisk MemoryHandler) Exit → Exit
 exit_of (Ok ended) = ended.exit
 exit_of (Err e) = e
-
--- what is asked of a library
-abbrev pub use_of : {L : Type 0} → LibraryGhosts L → L → L → LibraryUse
-use_of l before after = record {
-  texts = l.texts before;
-  faults = l.count before;
-  faults' = l.count after;
-  misses = l.missed before;
-  misses' = l.missed after;
-}
 
 -- A command line is run over the library of the folder which it names first, of which nothing was asked before.
 pub record IsStarted {L : Type 0} (folder : L → List ℕ) (l : LibraryGhosts L) (g : DiskGhosts MemoryDisk) (h : HandlerGhosts MemoryHandler)

@@ -48,11 +48,18 @@ const USAGE: &str = "usage: cfstack HOME WORKERS WORD ..\
 \n                     what failed at these paths\
 \n  resume STACK       end the operation that is in progress on the stack\
 \n  describe STACK     tell the stack that the journal leaves\
+\n  events STACK       tell what became of the stack, a line for each entry of the\
+\n                     journal that concerns it\
+\n  list               tell all stacks that are not deleted\
 \n  validate TEMPLATE  say whether the template HOME/templates/TEMPLATE can be read\
+\n\
+\nThe journal and the resources are in memory yet, so each run begins anew: it finds\
+\nno stack that an earlier run made.\
 \n\
 \nexits:\
 \n   0 Done             the stack is created or updated, the rollback that was\
-\n                      continued is done, the stack is told; the template can be read\
+\n                      continued is done, the stack, its events or all stacks are\
+\n                      told; the template can be read\
 \n   1 BadWords         the command line says nothing that is known\
 \n   2 TemplateRefused  no template, or one that can't be made; nothing was done\
 \n   3 StackRefused     no such stack, not from its status, not at this path, or nothing\

@@ -1,4 +1,4 @@
--- The report on a stack (this project's own).
+-- The reports on a stack, on what became of it, and on all stacks (this project's own).
 use Rattle.std.specs.Prelude.{ℕ, ◌==◌, Bool, true, false, ◌&&◌, ◌||◌, List, [], ◌∷◌, ◌++◌, Option, Some, None, fold, decimal, codes, option_and_then, if◌then◌else◌}
 use Rattle.std.specs.List.{flat_map}
 use Rattle.std.specs.Option.{option_or, option_map_or, unwrap_or}
@@ -23,6 +23,7 @@ use Rattle.cf_effect.specs.declared.held.Held.{Held}
 use Rattle.cf_effect.specs.declared.held.HeldStatus.{HeldStatus}
 use Rattle.cf_effect.specs.declared.held.HeldStatus.TheVariants as held
 use Rattle.cf_effect.specs.declared.held.Leftover.{Leftover}
+use Rattle.cf_effect.specs.Status.{is_deleted}
 use Rattle.cf_effect.specs.World.{StackState}
 use Rattle.cf_face.specs.declared.exit.Exit.{Exit}
 use Rattle.cf_face.specs.Exit.{exit_line}
@@ -130,3 +131,18 @@ stack_report name s e =
     ++ (flat_map leftover_line s.leftovers
     ++ (flat_map failed_line (last_failed s.entries)
     ++ exit_line e)))))
+
+-- The report on what became of a stack: the lines that it keeps (`lines_of`), one for each entry that concerns it, the earliest first, and
+-- how the command ended.
+abbrev pub event_line : List ℕ → List ℕ
+event_line line = line ++ 10 ∷ []
+
+abbrev pub events_report : StackState → Exit → List ℕ
+events_report s e = flat_map event_line s.events ++ exit_line e
+
+-- The report on all stacks: the line of each by name, but that of one that is deleted (DescribeStacks), and how the command ended.
+abbrev pub listed_line : List ℕ × StackState → List ℕ
+listed_line s = if is_deleted s.1.status then [] else stack_line s.0 (status_name s.1.status) s.1.number
+
+abbrev pub list_report : List (List ℕ × StackState) → Exit → List ℕ
+list_report stacks e = flat_map listed_line stacks ++ exit_line e

@@ -10,6 +10,9 @@ use Rattle.cf_tree.specs.Lists.{is_among}
 use Rattle.cf_template.specs.Words.{is_name}
 use Rattle.cf_face.specs.declared.words.Command.{Command}
 use Rattle.cf_face.specs.declared.words.Command.TheVariants as command
+use Rattle.cf_face.specs.declared.words.Question.{Question}
+use Rattle.cf_face.specs.declared.words.Question.TheVariants as question
+use Rattle.cf_face.specs.declared.words.Subject.TheVariants as subject
 use Rattle.cf_face.specs.declared.words.Task.{Task}
 use Rattle.cf_face.specs.declared.words.Task.TheVariants as task
 
@@ -78,6 +81,16 @@ abbrev pub describe_of : List (List ℕ) → Option Command
 describe_of (stack ∷ []) = if is_stack_name stack then Some (command.Describe stack) else None
 describe_of _ = None
 
+-- `events STACK`
+abbrev pub events_of : List (List ℕ) → Option Command
+events_of (stack ∷ []) = if is_stack_name stack then Some (command.Events stack) else None
+events_of _ = None
+
+-- `list`
+abbrev pub list_of : List (List ℕ) → Option Command
+list_of [] = Some command.List
+list_of _ = None
+
 -- `validate TEMPLATE`
 abbrev pub validate_of : List (List ℕ) → Option Command
 validate_of (template ∷ []) = if is_template_name template then Some (command.Validate template) else None
@@ -91,7 +104,9 @@ command_of (word ∷ words) =
     else (if bytes_eq (codes "continue-rollback") word then continue_of words
     else (if bytes_eq (codes "resume") word then resume_of words
     else (if bytes_eq (codes "describe") word then describe_of words
-    else (if bytes_eq (codes "validate") word then validate_of words else None))))
+    else (if bytes_eq (codes "events") word then events_of words
+    else (if bytes_eq (codes "list") word then list_of words
+    else (if bytes_eq (codes "validate") word then validate_of words else None))))))
 
 -- whether a command changes a stack, and so drives handlers
 abbrev pub drives : Command → Bool
@@ -99,6 +114,8 @@ drives (command.Deploy stack template given) = true
 drives (command.ContinueRollback stack paths) = true
 drives (command.Resume stack) = true
 drives (command.Describe stack) = false
+drives (command.Events stack) = false
+drives command.List = false
 drives (command.Validate template) = false
 
 -- the stack that a command changes and what is to be done with it, if it changes one
@@ -107,6 +124,14 @@ task_of (command.Deploy stack template given) = Some (stack, task.Deploy (record
 task_of (command.ContinueRollback stack paths) = Some (stack, task.Continue paths)
 task_of (command.Resume stack) = Some (stack, task.Resume)
 task_of _ = None
+
+-- what a command asks that drives no handlers: a template of the library, or the journal
+abbrev pub question_of : Command → Option Question
+question_of (command.Describe stack) = Some (question.Tell (subject.Stack stack))
+question_of (command.Events stack) = Some (question.Tell (subject.Events stack))
+question_of command.List = Some (question.Tell subject.Stacks)
+question_of (command.Validate template) = Some (question.Validate template)
+question_of _ = None
 
 -- the number of workers that a word names: a decimal number from 1 to 64 without a leading zero, of one digit
 -- or two (this project's own)

@@ -15,7 +15,7 @@ use cf_tree::{Names, NoMemory, Txt};
 use std::alloc::Global;
 
 /// Adds the line `stack NAME STATUS NUMBER`, with the number of the operation that created the stack.
-fn push_stack(
+pub fn push_stack(
     alloc: Global,
     report: &mut String,
     name: &Txt,

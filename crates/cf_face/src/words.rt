@@ -5,7 +5,7 @@ ghost use Rattle.std.specs.Char.{is_ascii_alphanumeric};
 ghost use Rattle.std.specs.List.{list_all};
 ghost use Rattle.cf_template.specs.Words.{is_name};
 ghost use Rattle.cf_face.specs.declared.words.Command.TheVariants.{ContinueRollback, Deploy};
-ghost use Rattle.cf_face.specs.Words.{command_of, continue_of, drives, workers_of, deploy_of, describe_of, resume_of, validate_of, setting_in_word, given_of, is_path, is_stack_name, is_template_name, is_name_byte, paths_of, task_of};
+ghost use Rattle.cf_face.specs.Words.{command_of, continue_of, drives, workers_of, deploy_of, describe_of, events_of, list_of, resume_of, validate_of, setting_in_word, given_of, is_path, is_stack_name, is_template_name, is_name_byte, paths_of, question_of, task_of};
 
 use cf_funcs::{cut, split};
 use cf_tree::{Names, NoMemory, Pairs, Txt};
@@ -32,6 +32,26 @@ pub enum Task {
     Resume,
 }
 
+/// What the journal is to tell.
+#[derive(Drop)]
+pub enum Subject {
+    /// The stack of this name.
+    Stack(Txt),
+    /// The events of the stack of this name.
+    Events(Txt),
+    /// All stacks that are not deleted.
+    Stacks,
+}
+
+/// What a command asks that drives no handlers.
+#[derive(Drop)]
+pub enum Question {
+    /// Whether the template of this name can be read.
+    Validate(Txt),
+    /// What the journal tells.
+    Tell(Subject),
+}
+
 /// What a command line asks for.
 #[derive(Drop)]
 pub enum Command {
@@ -54,6 +74,12 @@ pub enum Command {
     Describe {
         stack: Txt,
     },
+    /// `events STACK`: report on what became of the stack, entry by entry of the journal.
+    Events {
+        stack: Txt,
+    },
+    /// `list`: report on all stacks that are not deleted.
+    List,
     /// `validate TEMPLATE`: say whether the template can be read.
     Validate {
         template: Txt,
@@ -69,7 +95,10 @@ impl Command {
             Command::Deploy { .. } | Command::ContinueRollback { .. } | Command::Resume { .. } => {
                 true
             }
-            Command::Describe { .. } | Command::Validate { .. } => false,
+            Command::Describe { .. }
+            | Command::Events { .. }
+            | Command::List
+            | Command::Validate { .. } => false,
         }
     }
 
@@ -85,7 +114,28 @@ impl Command {
             } => Some((stack, Task::Deploy(Choice { template, given }))),
             Command::ContinueRollback { stack, paths } => Some((stack, Task::Continue(paths))),
             Command::Resume { stack } => Some((stack, Task::Resume)),
-            Command::Describe { stack: _ } | Command::Validate { template: _ } => None,
+            Command::Describe { stack: _ }
+            | Command::Events { stack: _ }
+            | Command::List
+            | Command::Validate { template: _ } => None,
+        }
+    }
+
+    /// What the command asks, if it drives no handlers.
+    pub fn into_question(self) -> Option<Question>
+        ensures { result ≡ question_of self }
+    {
+        match self {
+            Command::Describe { stack } => Some(Question::Tell(Subject::Stack(stack))),
+            Command::Events { stack } => Some(Question::Tell(Subject::Events(stack))),
+            Command::List => Some(Question::Tell(Subject::Stacks)),
+            Command::Validate { template } => Some(Question::Validate(template)),
+            Command::Deploy {
+                stack: _,
+                template: _,
+                given: _,
+            } => None,
+            Command::ContinueRollback { stack: _, paths: _ } | Command::Resume { stack: _ } => None,
         }
     }
 }
@@ -117,6 +167,12 @@ pub fn read_words(alloc: Global, words: &[Txt]) -> Result<Option<Command>, NoMem
     }
     if word.is("describe") {
         return read_describe(alloc, rest);
+    }
+    if word.is("events") {
+        return read_events(alloc, rest);
+    }
+    if word.is("list") {
+        return Ok(read_list(rest));
     }
     if word.is("validate") {
         return read_validate(alloc, rest);
@@ -304,6 +360,29 @@ fn read_describe(alloc: Global, words: &[Txt]) -> Result<Option<Command>, NoMemo
             Ok(Some(Command::Describe { stack }))
         }
         _ => Ok(None),
+    }
+}
+
+// The words after `events`.
+fn read_events(alloc: Global, words: &[Txt]) -> Result<Option<Command>, NoMemory>
+    ensures { IfOk result (λ command. command ≡ events_of words.now) }
+{
+    match words {
+        [stack] if is_stack_name(stack.as_str()) => {
+            let stack = stack.try_clone(alloc)?;
+            Ok(Some(Command::Events { stack }))
+        }
+        _ => Ok(None),
+    }
+}
+
+// The words after `list`: there are none.
+fn read_list(words: &[Txt]) -> Option<Command>
+    ensures { result ≡ list_of words.now }
+{
+    match words {
+        [] => Some(Command::List),
+        _ => None,
     }
 }
 

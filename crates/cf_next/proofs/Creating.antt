@@ -1,5 +1,5 @@
 -- The create that is found by places is the one that comes next while a creation goes forward.
-use Rattle.std.proofs.Common.{◌≡◌, inl, inr, ℕ, zero, suc, ◌+◌, ◌==◌, ◌<◌, arith, Bool, true, false, ◌&&◌, ◌||◌, not, List, [], ◌∷◌, ◌++◌, Option, Some, None, Result, Ok, Err, IfOk, append_assoc, cond, fold, flat_map, get_or, length, option_map, replicate, take, refl, ap, sym, ◌∙◌, subst, true≢false}
+use Rattle.std.proofs.Common.{◌≡◌, ℕ, zero, suc, ◌+◌, ◌==◌, ◌<◌, arith, Bool, true, false, ◌&&◌, ◌||◌, not, List, [], ◌∷◌, ◌++◌, Option, Some, None, Result, Ok, Err, IfOk, append_assoc, cond, fold, flat_map, get_or, length, option_map, replicate, refl, ap, sym, ◌∙◌, subst, true≢false}
 use Rattle.std.specs.Prelude.{⊤, option_and_then}
 use Rattle.std.specs.List.{AllByRecursion, filter_map, list_all, list_any, slice_get}
 use Rattle.std.specs.Option.{option_copied, option_map_or}
@@ -7,15 +7,12 @@ use Rattle.std.proofs.lemmas.List.{append-nil}
 use Rattle.std.proofs.lemmas.Option.{slice_get_within}
 use Rattle.cf_tree.specs.Datum.{Data}
 use Rattle.cf_tree.specs.Keys.{ascends, value_at}
-use Rattle.cf_tree.specs.Lists.{In, here, there}
+use Rattle.cf_tree.specs.Lists.{In, here}
 use Rattle.cf_schema.specs.declared.described.Schema.{Schema}
 use Rattle.cf_desired.specs.declared.flaw.Flaw.{Flaw}
 use Rattle.cf_desired.specs.declared.wanted.Evaluated.{Evaluated}
 use Rattle.cf_desired.specs.declared.wanted.Evaluated.TheVariants as evaluated
 use Rattle.cf_entry.proofs.Codec.{some_is}
-use Rattle.cf_entry.specs.declared.entry.Entry.{Entry}
-use Rattle.cf_entry.specs.declared.entry.Entry.TheVariants as entry
-use Rattle.cf_entry.specs.declared.entry.Reply.TheVariants as reply
 use Rattle.cf_effect.specs.declared.call.Call.{Call}
 use Rattle.cf_effect.specs.declared.findings.Findings.{Findings}
 use Rattle.cf_effect.specs.declared.findings.Found.{Found}
@@ -23,17 +20,16 @@ use Rattle.cf_effect.specs.declared.held.Held.{Held}
 use Rattle.cf_effect.specs.declared.layout.Layout.{Layout}
 use Rattle.cf_effect.specs.declared.layout.Placed.{Placed}
 use Rattle.cf_effect.specs.declared.ahead.Ahead.{Ahead}
-use Rattle.cf_effect.specs.Ahead.{IsAhead, is_right, is_setback, is_sound, is_update_of}
+use Rattle.cf_effect.specs.Ahead.{IsAhead, is_right, is_sound, is_update_of}
 use Rattle.cf_effect.specs.Findings.{AreFindings}
 use Rattle.cf_effect.specs.Layout.{IsLayoutOf}
-use Rattle.cf_effect.specs.Operation.{after_last, before_first, forward_of, is_phase, is_turn_or_opening, now_of, up_to_last}
 use Rattle.cf_effect.specs.Status.{Forward, stage_of}
 use Rattle.cf_effect.specs.Words.{is_update}
 use Rattle.cf_effect.specs.World.{StackState, World}
 use Rattle.cf_plan.specs.Causes.{IsFailureOf, or_path}
 use Rattle.cf_plan.specs.Failed.{least}
 use Rattle.cf_plan.specs.Follow.{is_free}
-use Rattle.cf_plan.specs.Forward.{AllDone, HasFailed, doubting, first_failing, first_failing_behind, first_refusing, refusing}
+use Rattle.cf_plan.specs.Forward.{AllDone, HasFailed}
 use Rattle.cf_plan.specs.PathStates.{AreStatesOf, are_done_at, are_enough, create_of, done_by_places, finding_in, flaw_seen, is_as_wanted, is_done_at, is_done_by, is_enough, is_read, ready_flaw, starts_from, update_of, with_done}
 use Rattle.cf_plan.specs.Start.{Start}
 use Rattle.cf_plan.specs.Starts.{AreOpen, start_of}
@@ -42,9 +38,9 @@ use Rattle.cf_plan.specs.declared.cause.Failure.TheVariants.{Nothing}
 use Rattle.cf_plan.specs.declared.path_state.PathFinding.{PathFinding}
 use Rattle.cf_plan.specs.declared.path_state.PathFinding.TheVariants as it
 use Rattle.cf_plan.specs.declared.path_state.PathState.{PathState}
+use Rattle.cf_plan.proofs.Calm.{none_fails}
 use Rattle.cf_plan.proofs.NoneNested.{none_by}
-use Rattle.cf_plan.proofs.Listed.{in_cons}
-use Rattle.cf_plan.proofs.Members.{any_in, false_from, in_none, not_both}
+use Rattle.cf_plan.proofs.Members.{in_none}
 use Rattle.cf_plan.proofs.StatesOpen.{are_open_by, failed_on_the_way}
 use Rattle.cf_plan.proofs.StatesRead.{read_so}
 use Rattle.cf_next.specs.declared.step.Next.{Next}
@@ -58,58 +54,6 @@ use Rattle.cf_next.proofs.FirstBegun.{new_chosen}
 use Rattle.cf_next.proofs.FirstNamed.{first_by_name}
 use Rattle.cf_next.proofs.Firsts.{IsFirst, starts_in_order}
 use denote.Ref.{Bor}
-
--- Where no entry is a setback, none fails the phase.
-module _ (schemas : List Schema) (s : StackState) where
-  abbrev Calm : List Entry → Type 0
-  Calm es = (e : Entry) → In e es → is_setback e ≡ false
-
-  not_refusing : (e : Entry) → is_setback e ≡ false → refusing schemas s e ≡ None
-  not_refusing (entry.Outcome n t (reply.Failed c) b a) h = absurd (true≢false h)
-  not_refusing _ h = refl
-
-  not_doubting : (earlier : List Entry) (e : Entry) → is_setback e ≡ false → doubting s earlier e ≡ None
-  not_doubting earlier (entry.Outcome n t reply.Doubt b a) h = absurd (true≢false h)
-  not_doubting earlier _ h = refl
-
-  none_refusing : (es : List Entry) → Calm es → first_refusing schemas s es ≡ None
-  none_refusing [] h = refl
-  none_refusing (e ∷ es) h = rw (not_refusing e (h e here)) (none_refusing es (λ x i. h x (there i)))
-
-  none_behind : (es earlier : List Entry) → Calm es → first_failing_behind schemas s earlier es ≡ None
-  none_behind [] earlier h = refl
-  none_behind (e ∷ es) earlier h =
-      rw (not_refusing e (h e here)) (rw (not_doubting earlier e (h e here)) (none_behind es (earlier ++ e ∷ []) (λ x i. h x (there i))))
-
-  none_failing : list_any is_setback s.entries ≡ false → first_failing schemas s ≡ None
-  none_failing h =
-      rw (none_refusing (up_to_last is_turn_or_opening (forward_of s)) (λ e i. calm e (in_before is_phase s.entries e (in_up is_turn_or_opening (forward_of s) e i))))
-      (none_behind (now_of s) [] (λ e i. calm e (in_after is_turn_or_opening s.entries e i)))
-    where
-      calm : Calm s.entries
-      calm e i = false_from (is_setback e) (λ t. not_both (list_any is_setback s.entries) (any_in is_setback e s.entries i t) h)
-
-      in_up : (test : Entry → Bool) (es : List Entry) (x : Entry) → In x (up_to_last test es) → In x es
-      in_up test [] x i = i
-      in_up test (e ∷ es) x i = by (list_any test (e ∷ es)) (in_up test es x) i where
-        by : (b : Bool) → (In x (up_to_last test es) → In x es) → In x (cond b (e ∷ up_to_last test es) []) → In x (e ∷ es)
-        by true more j = elim (in_cons j) [ inl same ↦ subst (λ y. In y (e ∷ es)) same here | inr k ↦ there (more k) ]
-        by false more j = absurd (in_none j)
-
-      in_after : (test : Entry → Bool) (es : List Entry) (x : Entry) → In x (after_last test es) → In x es
-      in_after test [] x i = i
-      in_after test (e ∷ es) x i = by (list_any test es) (test e) (in_after test es x) i where
-        by : (b c : Bool) → (In x (after_last test es) → In x es) → In x (cond b (after_last test es) (cond c es (e ∷ es))) → In x (e ∷ es)
-        by true c more j = there (more j)
-        by false true more j = there j
-        by false false more j = j
-
-      in_before : (test : Entry → Bool) (es : List Entry) (x : Entry) → In x (before_first test es) → In x es
-      in_before test [] x i = i
-      in_before test (e ∷ es) x i = by (test e) (in_before test es x) i where
-        by : (b : Bool) → (In x (before_first test es) → In x es) → In x (cond b [] (e ∷ before_first test es)) → In x (e ∷ es)
-        by true more j = absurd (in_none j)
-        by false more j = elim (in_cons j) [ inl same ↦ subst (λ y. In y (e ∷ es)) same here | inr k ↦ there (more k) ]
 
 -- What is read of a path by its place.
 abbrev lent : {A : Type 0} → A → Bor A
@@ -389,7 +333,7 @@ module _ (s : StackState) (l : Layout) (f : Findings) (layout : IsLayoutOf s (So
       good : (a : Start) → In a creates → HasFailed schemas name x s → ⊥
       good a i =
           subst (λ fs. IsFailureOf schemas name x s (or_path (least fs) Nothing)) (none_flawed l.rows.items 0 all_same sound)
-          (failed_on_the_way s states are enough schemas name x (none_failing schemas s goes.forth.setbacks) (none_by s goes.forth.nested) (left a i))
+          (failed_on_the_way s states are enough schemas name x (none_fails schemas s goes.forth.setbacks) (none_by s goes.forth.nested) (left a i))
 
       chosen : (a : Start) → IsFirst is_start_before starts_in_order (fits_one (homes_now out x)) (λ b. In b creates) (Some a)
           → (n : Next) → call_in (homes_now out x) (x.token + 1) a ≡ Some n → IsChosen schemas name x out s Forward n

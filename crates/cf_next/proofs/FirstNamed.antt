@@ -61,7 +61,7 @@ name_of_value k v (p ∷ ps) e = by (bytes_eq k p.0) refl e (name_of_value k v p
     by false t g more = there (more g)
 
 -- what is found of some
-found_in : {A : Type 0} (test : A → Bool) (xs : List A) (a : A) → find test xs ≡ Some a → In a xs × (test a ≡ true)
+pub found_in : {A : Type 0} (test : A → Bool) (xs : List A) (a : A) → find test xs ≡ Some a → In a xs × (test a ≡ true)
 found_in test [] a e = absurd (none-some a e)
 found_in test (x ∷ xs) a e = by (test x) refl e (found_in test xs a)
   where

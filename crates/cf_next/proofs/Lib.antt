@@ -8,6 +8,7 @@ pub mod FactsTold
 mod FailedOnce
 pub mod FirstBegun
 mod FirstNamed
+mod FirstOpen
 mod FirstReady
 mod Firsts
 mod Followed
@@ -18,6 +19,7 @@ pub mod LookingUp
 pub mod Marked
 pub mod Needing
 mod Offered
+mod Opening
 mod OnStack
 pub mod OneCause
 mod Orders
@@ -26,6 +28,8 @@ pub mod Repeating
 pub mod Restored
 pub mod Retaining
 pub mod FirstLeft
+mod FirstRestore
+mod GivingBack
 pub mod RollingBack
 mod Same
 pub mod Tallying

@@ -361,23 +361,29 @@ in_slice [] i x e = absurd (none-some x e)
 in_slice (y ∷ ys) zero x e = subst (λ z. In x (z ∷ ys)) (sym (same_Some y x e)) here
 in_slice (y ∷ ys) (suc i) x e = there (in_slice ys i x e)
 
-rising : {X : Type 0} (ps : List (List ℕ × X)) → ascends ps ≡ true → (i j : ℕ) (p q : List ℕ × X) → i < j → slice_get ps i ≡ Some p → slice_get ps j ≡ Some q → bytes_lt p.0 q.0 ≡ true
+pub rising : {X : Type 0} (ps : List (List ℕ × X)) → ascends ps ≡ true → (i j : ℕ) (p q : List ℕ × X) → i < j → slice_get ps i ≡ Some p → slice_get ps j ≡ Some q → bytes_lt p.0 q.0 ≡ true
 rising [] h i j p q less e g = absurd (none-some p e)
 rising (x ∷ ps) h zero zero p q less e g = absurd (omega (arith, less))
 rising (x ∷ ps) h zero (suc j) p q less e g = subst (λ y. bytes_lt y.0 q.0 ≡ true) (same_Some x p e) (above x.0 ps h q (in_slice ps j q g))
 rising (x ∷ ps) h (suc i) zero p q less e g = absurd (omega (arith, less))
 rising (x ∷ ps) h (suc i) (suc j) p q less e g = rising ps (others x.0 ps h) i j p q (omega (arith, less)) e g
 
-lower_or_same : (a b c : Bool) → (a || (b && c)) ≡ true → (a ≡ true → ⊥) → (b ≡ true → ⊥) → ⊥
+pub lower_or_same : (a b c : Bool) → (a || (b && c)) ≡ true → (a ≡ true → ⊥) → (b ≡ true → ⊥) → ⊥
 lower_or_same true b c h n m = n refl
 lower_or_same false true c h n m = m refl
 lower_or_same false false c h n m = true≢false (sym h)
 
-not_before_itself : (p i : List ℕ) → precedes (p, i) (p, i) ≡ false
+pub not_before_itself : (p i : List ℕ) → precedes (p, i) (p, i) ≡ false
 not_before_itself p i = rw (not_below_itself p, not_below_itself i) (both_none (bytes_eq p p)) where
   both_none : (b : Bool) → (false || (b && false)) ≡ false
   both_none true = refl
   both_none false = refl
+
+-- where a rollback waits for no repeat, none may be made
+pub none_to_repeat : (out : List ℕ) (s : StackState) → waits_for_repeats Back out s ≡ false → (p : Pending) → In p s.tokens → may_repeat Back out s p ≡ true → ⊥
+none_to_repeat out s idle p i t =
+    not_both (list_any (may_repeat Back out s) s.tokens) (any_in (may_repeat Back out s) p s.tokens i t)
+    (both_false (is_repeat_in_flight out s) (list_any (may_repeat Back out s) s.tokens) idle).1
 
 -- The offer of the rollback, of which only the first deletion is found.
 module _ (out : List ℕ) (x : World) (s : StackState) (u : Undoing) (k : IsUndoing s u) (idle : waits_for_repeats Back out s ≡ false) where
@@ -425,9 +431,7 @@ module _ (out : List ℕ) (x : World) (s : StackState) (u : Undoing) (k : IsUndo
   offer = record { repeats = []; starts = exact; keepings = []; turn = None; is_made = false }
 
   no_repeat : (p : Pending) → In p s.tokens → may_repeat Back out s p ≡ true → ⊥
-  no_repeat p i t =
-      not_both (list_any (may_repeat Back out s) s.tokens) (any_in (may_repeat Back out s) p s.tokens i t)
-      (both_false (is_repeat_in_flight out s) (list_any (may_repeat Back out s) s.tokens) idle).1
+  no_repeat = none_to_repeat out s idle
 
   module _ (schemas : List Schema) (name : List ℕ) where
     starts_to : (path : List ℕ) (r : Request) → is_free path s ≡ true → IntendsDeletion Back s path r → In (record { path = path; request = r }) exact

@@ -8,8 +8,10 @@ pub mod Joining
 pub mod Lookups
 pub mod Needed
 pub mod Offer
+pub mod Opens
 pub mod Removals
 pub mod Repeats
+pub mod Restores
 pub mod Restoring
 pub mod Rollback
 pub mod Taking

@@ -13,6 +13,8 @@ use crate::creation::next_create;
 use crate::first::first_begun;
 use crate::home::{Homes, leases_of, schemas_of};
 use crate::offer::Offer;
+use crate::opens::next_open;
+use crate::restores::next_restore;
 use crate::rollback::next_deletion;
 use crate::stage::{last_of, look_ahead, offer_of, overview_in};
 use crate::step::Next;
@@ -136,6 +138,26 @@ fn next_over<'o, 'a>(
     next
 }
 
+/// What comes next in the operation of a stack of whose paths this is known: a call that may begin, where one is found at once, or else
+/// what all that is offered tells.
+fn next_known<'o, 'a>(
+    alloc: Global,
+    schemas: &Schemas,
+    name: &Txt,
+    world: &World,
+    stack: &'a StackState,
+    out: &[u64],
+    overview: &'o Option<Overview<'a>>,
+) -> Result<Next, NextFault>
+    requires { IsOverviewIn schemas.now stack.now.stack overview.now }
+    ensures { Chooses schemas.now name.now world.now.world out.now stack.now.stack result }
+{
+    if let Some(call) = next_open(alloc, schemas, name, world, stack, out, overview)? {
+        return Ok(call);
+    }
+    next_over(alloc, schemas, name, world, stack, out, overview)
+}
+
 /// What comes next in the operation of a stack.
 fn next_on(
     alloc: Global,
@@ -150,11 +172,14 @@ fn next_on(
     if let Some(deletion) = next_deletion(alloc, out, world, stack)? {
         return Ok(deletion);
     }
+    if let Some(restore) = next_restore(alloc, out, world, stack)? {
+        return Ok(restore);
+    }
     if let Some(create) = next_create(alloc, out, world, stack)? {
         return Ok(create);
     }
     let overview = overview_in(alloc, schemas, stack)?;
-    let next = next_over(alloc, schemas, name, world, stack, out, &overview);
+    let next = next_known(alloc, schemas, name, world, stack, out, &overview);
     drop(overview);
     next
 }

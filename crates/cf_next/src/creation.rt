@@ -162,7 +162,7 @@ fn is_sound(readiness: &Readiness) -> bool
 }
 
 /// Whether no call of a stack is to be made again.
-fn is_idle(alloc: Global, stack: &StackState, out: &[u64]) -> Result<bool, AllocError>
+pub(crate) fn is_idle(alloc: Global, stack: &StackState, out: &[u64]) -> Result<bool, AllocError>
     ensures { IfOk result (λ so. so ≡ true → AreRepeatsBut [] out.now stack.now.stack []) }
 {
     let repeats = repeats(alloc, stack, out)?;

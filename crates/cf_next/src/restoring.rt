@@ -42,7 +42,7 @@ fn may_restore(stack: &StackState, past: &Past, held: &Held) -> bool
 }
 
 /// The call that gives a resource back what it had.
-fn restore_of(held: &Held) -> Start<'_>
+pub(crate) fn restore_of(held: &Held) -> Start<'_>
     ensures { result ≡ restore_of held.now }
 {
     let physical = &held.physical;

@@ -152,7 +152,7 @@ fn first_deletion<'a>(
 }
 
 /// Whether a rollback waits for no repeat.
-fn is_idle(alloc: Global, stack: &StackState, out: &[u64]) -> Result<bool, AllocError>
+pub(crate) fn is_idle(alloc: Global, stack: &StackState, out: &[u64]) -> Result<bool, AllocError>
     ensures { IfOk result (λ so. so ≡ true → waits_for_repeats Back out.now stack.now.stack ≡ false) }
 {
     let repeats = repeats(alloc, stack, out)?;

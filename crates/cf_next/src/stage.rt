@@ -190,18 +190,22 @@ fn dues_on(
     dues
 }
 
-/// Whether the operation of this number goes forward, or rolls a creation back.
+/// Whether the operation of this number goes forward, or rolls a creation or an update back.
 fn is_looked_at(world: &World, number: u64) -> bool {
     match world.stack_of_operation(number) {
         Some(going) => {
             let status = going.1.status();
-            goes_forward(status) || matches!(status, Status::RollbackInProgress)
+            goes_forward(status)
+                || matches!(
+                    status,
+                    Status::RollbackInProgress | Status::UpdateRollbackInProgress
+                )
         }
         None => false,
     }
 }
 
-/// Works out beforehand what an operation that goes forward, or rolls a creation back, will look up.
+/// Works out beforehand what an operation that goes forward, or rolls a creation or an update back, will look up.
 pub(crate) fn look_ahead(alloc: Global, world: &mut World, number: u64) -> Result<(), AllocError>
     ensures { world.new ≡ world.old }
 {

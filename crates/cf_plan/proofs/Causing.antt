@@ -19,7 +19,7 @@ use Rattle.cf_desired.specs.Whole.{wanted_at, known_props_from}
 use Rattle.cf_schema.specs.declared.described.Schema.{Schema}
 use Rattle.cf_effect.specs.World.{StackState, World}
 use Rattle.cf_plan.specs.declared.cause.Failure.{Failure}
-use Rattle.cf_plan.specs.declared.cause.Failure.TheVariants.{Nothing}
+use Rattle.cf_plan.specs.declared.cause.Failure.TheVariants.{Nothing, Because}
 use Rattle.cf_plan.specs.Between.{needs_at}
 use Rattle.cf_plan.specs.Forward.{Finding, Bad, Later, finding, known_or_later, AllDone, HasFailed, IsBadAt, IsBadOutput, IsBadPath, IsLostExport, first_failing, is_lost, path_of_token, plan_now}
 use Rattle.cf_tree.specs.Lists.{there}
@@ -27,7 +27,7 @@ use Rattle.cf_tree.specs.Lists.{here}
 use Rattle.cf_tree.specs.Lists.{In}
 use Rattle.cf_plan.specs.Done.{AreDone, HasTerms, are_met, planned_needs}
 use Rattle.cf_plan.specs.Failed.{are_all_done, flaw_planned, flaw_found, flaw_in, flaws_found, inner_found, least}
-use Rattle.cf_plan.specs.Causes.{IsFailureOf, end_failure, failure_of_call, of_export, or_call, or_flaw, or_path, plan_failure}
+use Rattle.cf_plan.specs.Causes.{IsFailureOf, end_failure, failure_of_call, is_nothing, of_export, or_call, or_flaw, or_path, plan_failure}
 use Rattle.cf_plan.proofs.Doing.{all_met, met_all}
 use Rattle.cf_plan.proofs.FailingCalls.{failing_called}
 use Rattle.cf_plan.proofs.Least.{least_in, least_low, least_none}
@@ -236,3 +236,9 @@ all_done_is s terms done terms_are are = (
   λ t p i. (are p).1 (all_are terms.wanted done t p (subst (In p) (sym terms_are.paths) i)),
   λ h. are_all terms.wanted done (λ p i. (are p).0 (h p (subst (In p) terms_are.paths i))),
 )
+
+-- the phase goes on just where there is no failure
+pub goes_by : (schemas : List Schema) (name : List ℕ) (x : World) (s : StackState) (f : Failure) (so : Bool) → IsFailureOf schemas name x s f → so ≡ is_nothing f
+    → IsTrue so ↔ (¬ HasFailed schemas name x s)
+goes_by schemas name x s Nothing so h e = ((λ _. h), (λ _. e))
+goes_by schemas name x s (Because c) so h e = ((λ t. absurd (true≢false (sym t ∙ e))), (λ n. absurd (n h.0)))

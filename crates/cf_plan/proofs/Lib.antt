@@ -1,6 +1,7 @@
 pub mod OneShape
 pub mod PlanTerms
 pub mod StatesDone
+pub mod Marking
 pub mod StatesRead
 pub mod StatesOpen
 pub mod NoneNested
@@ -8,6 +9,7 @@ pub mod CreatedStays
 pub mod CreatedRight
 pub mod CreatedWhole
 pub mod CreatedEnd
+pub mod Calm
 pub mod FailedPaths
 pub mod Members
 pub mod OfLane

@@ -1,7 +1,8 @@
 -- Tests over the members of a list.
-use Rattle.std.proofs.Common.{◌≡◌, Bool, true, false, ◌||◌, not, List, [], ◌∷◌, flat_map, refl, ap, sym, ◌∙◌, true≢false}
+use Rattle.std.proofs.Common.{◌≡◌, Bool, true, false, ◌&&◌, ◌||◌, not, List, [], ◌∷◌, flat_map, refl, ap, sym, ◌∙◌, true≢false}
 use Rattle.std.specs.List.{list_any, list_all}
 use Rattle.std.specs.Cmp.{first_so, second_so}
+use Rattle.std.proofs.Math.Bool.{and_comm}
 use Rattle.std.proofs.lemmas.Bool.{and_from}
 use Rattle.std.proofs.lemmas.List.Folds.{list_any-append}
 use Rattle.cf_tree.specs.Lists.{there}
@@ -19,6 +20,9 @@ not_so b e = rw e refl
 pub is_so : (b : Bool) → not b ≡ true → b ≡ false
 is_so true e = absurd (true≢false (sym e))
 is_so false e = refl
+
+pub swapped : (a b : Bool) → (a && b) ≡ (b && a)
+swapped = and_comm
 
 pub not_both : (b : Bool) → b ≡ true → b ≡ false → ⊥
 not_both b t f = true≢false (sym t ∙ f)

@@ -37,11 +37,11 @@ use Rattle.cf_plan.proofs.StartsListed.{at_path, of_path, start}
 use Rattle.cf_plan.proofs.StatesDone.{all_done, done_is, needs_done, of_state, read_is, state_of, told_of}
 
 -- members of lists that are put together
-in_flat : {A B : Type 0} (f : A → List B) (y : B) (xs : List A) → In y (flat_map f xs) → (x : A) × In x xs × In y (f x)
+pub in_flat : {A B : Type 0} (f : A → List B) (y : B) (xs : List A) → In y (flat_map f xs) → (x : A) × In x xs × In y (f x)
 in_flat f y [] i = absurd (in_none i)
 in_flat f y (x ∷ xs) i = elim (in_either y (f x) (flat_map f xs) i) [ inl j ↦ (x, here, j) | inr j ↦ (let w = in_flat f y xs j in (w.0, there w.1, w.2)) ]
 
-flat_in : {A B : Type 0} (f : A → List B) (y : B) (x : A) (xs : List A) → In x xs → In y (f x) → In y (flat_map f xs)
+pub flat_in : {A B : Type 0} (f : A → List B) (y : B) (x : A) (xs : List A) → In x xs → In y (f x) → In y (flat_map f xs)
 flat_in f y x [] i j = absurd (in_none i)
 flat_in f y x (z ∷ zs) i j = elim (in_cons i) [
   | inl e ↦ in_left y (f z) (flat_map f zs) (subst (λ w. In y (f w)) (sym e) j)

@@ -93,15 +93,6 @@ one_place (y ∷ ys) d (suc i) zero x e f = absurd (twice y ys d (subst (λ z. I
   twice y ys d i = true≢false (sym (any_in (bytes_eq y) y ys i (same_bytes y)) ∙ is_so (list_any (bytes_eq y) ys) (first_so (not (list_any (bytes_eq y) ys)) (all_differ bytes_eq ys) d))
 one_place (y ∷ ys) d (suc i) (suc j) x e f = ap suc (one_place ys (second_so (not (list_any (bytes_eq y) ys)) (all_differ bytes_eq ys) d) i j x e f)
 
--- one place more is not marked
-unmarked : (n : ℕ) → replicate n false ++ false ∷ [] ≡ replicate (suc n) false
-unmarked zero = refl
-unmarked (suc n) = ap (λ xs. false ∷ xs) (unmarked n)
-
-pub unmarked_more : (n : ℕ) (old new : List Bool) → old ≡ replicate n false → new ≡ old ++ false ∷ [] → new ≡ replicate (n + 1) false
-unmarked_more n old new e f =
-    f ∙ ap (λ xs. xs ++ false ∷ []) e ∙ unmarked n ∙ ap (λ k. replicate k false) (let k : suc n ≡ n + 1 = omega arith in k)
-
 -- Which paths the operation updated.
 module _ (l : Layout) (differ : all_differ bytes_eq (map (λ r. r.path) l.rows.items) ≡ true)
     (places : (path : List ℕ) → value_at path l.places ≡ position (is_row_of path) l.rows.items) (at : ℕ) (row : Placed) (is : slice_get l.rows.items at ≡ Some row) where
@@ -292,13 +283,16 @@ all_earlier : (k : ℕ) (js : List ℕ) → AllByRecursion (λ j. j < k) js → 
 all_earlier k [] a j i = absurd (in_none i)
 all_earlier k (x ∷ js) a j i = elim (in_cons i) [ inl e ↦ subst (λ y. y < k) e a.0 | inr m ↦ all_earlier k js a.1 j m ]
 
+-- the paths of the rows are those of the operation's template
+pub paths_laid : (s : StackState) (l : Layout) → AreRows (source_members s) l → map (λ r. r.path) l.rows.items ≡ wanted_paths s
+paths_laid s l rows = rows.paths ∙ paths_in s.going (seen_in s.before)
+
 module _ (s : StackState) (l : Layout) (f : Findings) (rows : AreRows (source_members s) l) (finds : AreFindings s f) where
   abbrev ms : List Member
   ms = source_members s
 
-  -- the paths of the rows are those of the operation's template
   paths_are : map (λ r. r.path) l.rows.items ≡ wanted_paths s
-  paths_are = rows.paths ∙ paths_in s.going (seen_in s.before)
+  paths_are = paths_laid s l rows
 
   rows_differ : all_differ bytes_eq (map (λ r. r.path) l.rows.items) ≡ true
   rows_differ = subst (λ ps. all_differ bytes_eq ps ≡ true) (sym rows.paths) (differ_in s.going (seen_in s.before))

@@ -1,5 +1,5 @@
 -- Whether the forward phase has failed, and for which cause, as code tells it (this project's own).
-use Rattle.std.specs.Prelude.{ℕ, List, Option, Some, None, find, if◌then◌else◌}
+use Rattle.std.specs.Prelude.{ℕ, Bool, true, false, List, Option, Some, None, find, if◌then◌else◌}
 use Rattle.cf_tree.specs.Lists.{first_in}
 use Rattle.cf_entry.specs.declared.turn.Cause.TheVariants as cause
 use Rattle.cf_entry.specs.declared.turn.Reason.{Reason}
@@ -47,3 +47,8 @@ plan_failure name x before now done =
 abbrev pub IsFailureOf : List Schema → List ℕ → World → StackState → Failure → Type 0
 IsFailureOf schemas name x s Nothing = ¬ HasFailed schemas name x s
 IsFailureOf schemas name x s (Because c) = HasFailed schemas name x s × IsCause schemas name x s c
+
+-- the phase has not failed
+abbrev pub is_nothing : Failure → Bool
+is_nothing Nothing = true
+is_nothing (Because c) = false

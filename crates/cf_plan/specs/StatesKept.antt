@@ -31,6 +31,10 @@ abbrev pub with_mark : List (List ℕ × ℕ) → Bool → ℕ → List Bool →
 with_mark places good number marks c =
     if c.number == number && is_marking good c then marked_at marks (value_at c.path places) else marks
 
+-- the place of an update of an operation that was answered
+abbrev pub updated_place : List (List ℕ × ℕ) → ℕ → Call → Option ℕ
+updated_place places number c = if c.number == number && is_marking false c then value_at c.path places else None
+
 abbrev pub marks_of : ℕ → List (List ℕ × ℕ) → Bool → ℕ → List Call → List Bool
 marks_of count places good number calls = fold (with_mark places good number) (replicate count false) calls
 

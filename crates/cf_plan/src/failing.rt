@@ -1,6 +1,8 @@
 //! The outcome that fails the forward phase of an operation.
 ghost use Rattle.std.specs.Prelude.{◌≡◌, ◌==◌, ◌&&◌, [], find, is_some};
+ghost use Rattle.std.specs.List.{list_any};
 ghost use Rattle.std.specs.Option.{option_copied};
+ghost use Rattle.cf_effect.specs.Ahead.{is_setback};
 ghost use Rattle.cf_effect.specs.Calls.{call_under};
 ghost use Rattle.cf_effect.specs.Operation.{doubts_in};
 ghost use Rattle.cf_effect.specs.Words.{has_physical};
@@ -185,10 +187,48 @@ fn first_failing_now(
     None
 }
 
-/// The token of the first outcome that fails the forward phase, and the reason: a refusal that is not excused, at any time in
-/// the phase, and in this opening a call's third doubt. It goes over the entries once, and once more for each refusal and
-/// each doubt.
-pub fn first_failing(schemas: &Schemas, stack: &StackState) -> Option<(u64, Reason)>
+/// Whether an entry is an outcome that is a refusal or a doubt.
+fn is_setback(entry: &Entry) -> bool
+    ensures { result ≡ is_setback entry.now }
+{
+    match entry {
+        Entry::Outcome {
+            number: _,
+            token: _,
+            answer,
+            before: _,
+            after: _,
+        } => !matches!(
+            answer,
+            Reply::Success {
+                physical: _,
+                attrs: _
+            }
+        ),
+        _ => false,
+    }
+}
+
+/// Whether an entry as the stack keeps it is an outcome that is a refusal or a doubt.
+#[tactic(auto, using(cf_effect::proofs::Setbacks::no_setback))]
+fn is_heard_setback(heard: &HeardEntry) -> bool
+    ensures { result ≡ is_setback heard.now }
+{
+    match heard.as_entry() {
+        Some(entry) => is_setback(entry),
+        None => false,
+    }
+}
+
+/// Whether one of these entries is an outcome that is a refusal or a doubt.
+fn has_setback(entries: &[HeardEntry]) -> bool
+    ensures { result ≡ list_any is_setback entries.now }
+{
+    entries.iter().any(is_heard_setback)
+}
+
+/// The first outcome that fails the forward phase, looked for among the entries of the phase.
+fn first_among(schemas: &Schemas, stack: &StackState) -> Option<(u64, Reason)>
     ensures { result ≡ first_failing schemas.now stack.now.stack }
 {
     let entries = stack.entries().as_slice();
@@ -196,5 +236,19 @@ pub fn first_failing(schemas: &Schemas, stack: &StackState) -> Option<(u64, Reas
     match first_refusing(schemas, stack, earlier) {
         Some(failing) => Some(failing),
         None => first_failing_now(schemas, stack, now_of(entries)),
+    }
+}
+
+/// The token of the first outcome that fails the forward phase, and the reason: a refusal that is not excused, at any time in
+/// the phase, and in this opening a call's third doubt. Where no outcome is a refusal or a doubt it goes over the entries once; else
+/// once more, and once for each refusal and each doubt.
+#[tactic(auto, using(crate::proofs::Calm::none_fails))]
+pub fn first_failing(schemas: &Schemas, stack: &StackState) -> Option<(u64, Reason)>
+    ensures { result ≡ first_failing schemas.now stack.now.stack }
+{
+    if has_setback(stack.entries().as_slice()) {
+        first_among(schemas, stack)
+    } else {
+        None
     }
 }

@@ -34,7 +34,9 @@ pub use found::{Found, finding_at, is_held_right, wanted_at};
 pub use lanes::{first_home, is_lane_leased, is_of_lane};
 pub use laws::granted_is_proper;
 pub use overview::{Overview, overview_of};
-pub use progress::{Progress, progress_of};
+pub use path_starts::{create_of, may_begin, update_of};
+pub use path_state::{PathFinding, PathState};
+pub use progress::{Progress, goes_on, progress_of};
 pub use repeats::{
     doubts_of, is_in_flight, is_repeat_in_flight, may_repeat, none_in_flight, waits_for_repeats,
 };

@@ -57,7 +57,7 @@ fn update_unless<'a>(
 }
 
 /// The create that a path wants.
-fn create_of<'a>(
+pub fn create_of<'a>(
     schemas: &Schemas,
     stack: &StackState,
     found: &PathFinding<'a>,
@@ -74,7 +74,7 @@ fn create_of<'a>(
 }
 
 /// The update that a path wants.
-fn update_of<'a>(
+pub fn update_of<'a>(
     schemas: &Schemas,
     found: &PathFinding<'a>,
     is_answered: bool,
@@ -93,7 +93,7 @@ fn update_of<'a>(
 }
 
 /// Whether a path is not done, all that it needs is done, and no token of it is open.
-fn may_begin(stack: &StackState, done: &[bool], state: &PathState) -> bool
+pub fn may_begin(stack: &StackState, done: &[bool], state: &PathState) -> bool
     ensures { result ≡ may_begin stack.now.stack done.now state.now }
 {
     !is_done_at(done, state.place) && are_done_at(done, state.needs) && is_free(stack, state.path)

@@ -60,11 +60,12 @@ pub(crate) fn are_done_at(done: &[bool], places: &[usize]) -> bool
     places.iter().all(|place| is_done_at(done, *place))
 }
 
-/// Whether a type and properties are those that are wanted.
+/// Whether a type and properties are those that are wanted. Properties are compared first, since types seldom differ.
+#[tactic(auto, using(crate::proofs::Members::swapped))]
 fn are_same(wanted: &Txt, props: &Dict, kind: &Txt, held: &Dict) -> bool
     ensures { result ≡ (bytes_eq wanted.now kind.now && same_members (members_of props.now) (members_of held.now)) }
 {
-    *wanted == *kind && *props == *held
+    *props == *held && *wanted == *kind
 }
 
 /// Whether this type and these properties are wanted.
@@ -105,7 +106,7 @@ fn is_done_by(done: &[bool], state: &PathState) -> bool
 pub(crate) fn done_by_places(alloc: Global, states: &[PathState]) -> Result<Vec<bool>, AllocError>
     ensures { IfOk result (λ done. done.items ≡ done_by_places states.now) }
 {
-    let mut done = Vec::new(alloc);
+    let mut done = Vec::with_capacity(alloc, states.len())?;
     for state in states {
         let is_done = is_done_by(done.as_slice(), state);
         done.push(is_done)?;

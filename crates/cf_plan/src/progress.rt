@@ -1,8 +1,8 @@
 //! How far a forward phase has come: whether it has failed, and what may begin where it has not.
 ghost use Rattle.std.specs.Prelude.{◌≡◌, ◌↔◌, [], IfOk, IsTrue, option_map};
-ghost use Rattle.cf_plan.specs.Causes.{IsFailureOf, or_path};
+ghost use Rattle.cf_plan.specs.Causes.{IsFailureOf, is_nothing, or_path};
 ghost use Rattle.cf_plan.specs.Failed.{bad_of};
-ghost use Rattle.cf_plan.specs.Forward.{AllDone, plan_now};
+ghost use Rattle.cf_plan.specs.Forward.{AllDone, HasFailed, plan_now};
 ghost use Rattle.cf_plan.specs.Overview.{IsOverview};
 ghost use Rattle.cf_plan.specs.PathStates.{AreStatesOf, are_enough, done_by_places};
 ghost use Rattle.cf_plan.specs.Progress.{IsProgressOf};
@@ -233,6 +233,62 @@ fn progress_anew<'a>(
             Ok(Progress::Going { starts, is_done })
         }
     }
+}
+
+/// Whether the phase has failed and why, by what is known of its paths.
+fn failure_seen(
+    alloc: Global,
+    schemas: &Schemas,
+    name: &Txt,
+    world: &World,
+    stack: &StackState,
+    overview: &Overview,
+) -> Result<Failure, AllocError>
+    requires { IsOverview schemas.now stack.now.stack overview.now }
+    ensures { IfOk result (λ failure. IsFailureOf schemas.now name.now world.now.world stack.now.stack failure) }
+{
+    match overview {
+        Overview::Kept { states, done } => failure_kept(
+            alloc,
+            schemas,
+            name,
+            world,
+            stack,
+            states.as_slice(),
+            done.as_slice(),
+        ),
+        Overview::Anew {
+            starts: _,
+            is_done: _,
+        } => failure_anew(alloc, schemas, name, world, stack),
+    }
+}
+
+/// Whether nothing has failed.
+fn is_nothing(failure: &Failure) -> bool
+    ensures { result ≡ is_nothing failure.now }
+{
+    matches!(failure, Failure::Nothing)
+}
+
+/// Whether the forward phase of a create or an update has not failed, by what is known of its paths. What may begin is not laid out.
+///
+/// # Errors
+///
+/// Only for want of memory.
+pub fn goes_on(
+    alloc: Global,
+    schemas: &Schemas,
+    name: &Txt,
+    world: &World,
+    stack: &StackState,
+    overview: &Overview,
+) -> Result<bool, AllocError>
+    requires { IsOverview schemas.now stack.now.stack overview.now }
+    ensures { IfOk result (λ so. IsTrue so ↔ ¬ HasFailed schemas.now name.now world.now.world stack.now.stack) }
+{
+    let failure = failure_seen(alloc, schemas, name, world, stack, overview)?;
+    Ok(is_nothing(&failure))
 }
 
 /// How far a create or an update has come in its forward phase, by what is known of its paths. The requests that may begin borrow

@@ -1,12 +1,13 @@
 //! What is known of each path, read off the layout of its source, the findings that its stack keeps, and the calls of its
 //! operation.
-ghost use Rattle.std.specs.Prelude.{◌≡◌, IfOk, Some, false, length, option_and_then, replicate, set, true};
+ghost use Rattle.std.specs.Prelude.{◌≡◌, IfOk, Some, false, fold, length, option_and_then, set, true, if◌then◌else◌};
 ghost use Rattle.std.specs.List.{slice_get};
 ghost use Rattle.std.specs.Option.{option_copied};
+ghost use Rattle.cf_tree.specs.Keys.{value_at};
 ghost use Rattle.cf_effect.specs.Findings.{AreFindings};
 ghost use Rattle.cf_effect.specs.Layout.{IsLayoutOf};
 ghost use Rattle.cf_plan.specs.PathStates.{AreStatesOf, finding_in};
-ghost use Rattle.cf_plan.specs.StatesKept.{AreRead, IsRead, at_place, finding_kept, is_marking, marks_of, with_mark};
+ghost use Rattle.cf_plan.specs.StatesKept.{AreRead, IsRead, at_place, finding_kept, marks_of, updated_place, with_mark};
 
 use crate::calls::{is_answered_update, is_good_update};
 use crate::path_state::{PathFinding, PathState, is_done_at};
@@ -15,27 +16,13 @@ use cf_stacks::{Call, Findings, Found, Held, Layout, Placed, StackState};
 use cf_tree::Txt;
 use std::alloc::{AllocError, Global};
 
-/// Whether a call is an update that succeeded, or one that was answered.
-fn is_marking(good: bool, call: &Call) -> bool
-    ensures { result ≡ is_marking good call.now }
-{
-    if good {
-        is_good_update(call)
-    } else {
-        is_answered_update(call)
-    }
-}
-
-/// No place is marked, of so many.
-#[tactic(auto, using(crate::proofs::StatesRead::unmarked_more))]
-fn no_marks(alloc: Global, count: usize) -> Result<Vec<bool>, AllocError>
-    ensures { IfOk result (λ marks. marks.items ≡ replicate count false) }
-{
-    let mut marks = Vec::new(alloc);
-    for _ in 0..count {
-        marks.push(false)?;
-    }
-    Ok(marks)
+/// Which paths an operation updated, by place.
+#[derive(Drop)]
+struct Marks {
+    /// Those of which an update succeeded.
+    updated: Vec<bool>,
+    /// Those of which an update was answered, be it refused.
+    answered: Vec<bool>,
 }
 
 /// Marks a place, where there is one.
@@ -47,31 +34,103 @@ fn mark(marks: &mut Vec<bool>, place: usize)
     }
 }
 
-/// Marks the place of a call's path, where it is an update of the operation that succeeded, or was answered.
-fn add_mark(layout: &Layout, good: bool, number: u64, marks: &mut Vec<bool>, call: &Call)
-    ensures { marks.new.items ≡ with_mark layout.now.places good number marks.old.items call.now }
+/// Marks a place in both lists; in that of the updates that succeeded where it is one.
+fn mark_both(marks: &mut Marks, good: bool, place: usize)
+    ensures updated { marks.new.updated.items ≡ (if good then set marks.old.updated.items place true else marks.old.updated.items) }
+    ensures answered { marks.new.answered.items ≡ set marks.old.answered.items place true }
 {
-    if call.number == number && is_marking(good, call) {
-        if let Some(place) = layout.place_of(&call.path) {
-            mark(marks, place);
+    if good {
+        mark(&mut marks.updated, place);
+        mark(&mut marks.answered, place)
+    } else {
+        mark(&mut marks.answered, place)
+    }
+}
+
+/// The place of a path in the layout of a stack's source, which is looked for at a place first.
+fn place_from(stack: &StackState, layout: &Layout, near: usize, path: &Txt) -> Option<usize>
+    requires { IsLayoutOf stack.now.stack (Some layout.now) }
+    ensures { result ≡ value_at path.now layout.now.places }
+{
+    let _of = stack;
+    if layout.stands_at(near, path) {
+        Some(near)
+    } else {
+        layout.place_of(path)
+    }
+}
+
+/// The place of a call's path, where it is an update of the operation that was answered; it is looked for at a place first.
+fn updated_from(
+    stack: &StackState,
+    layout: &Layout,
+    number: u64,
+    near: usize,
+    call: &Call,
+) -> Option<usize>
+    requires { IsLayoutOf stack.now.stack (Some layout.now) }
+    ensures { result ≡ updated_place layout.now.places number call.now }
+{
+    if call.number == number && is_answered_update(call) {
+        place_from(stack, layout, near, &call.path)
+    } else {
+        None
+    }
+}
+
+/// Marks the place of a call's path, where it is an update of the operation that was answered; it gives the place at which the next one
+/// is to be looked for first.
+#[tactic(auto, using(crate::proofs::Marking::updated_marked, crate::proofs::Marking::updated_unmarked, crate::proofs::Marking::answered_marked, crate::proofs::Marking::answered_unmarked))]
+fn add_mark(
+    stack: &StackState,
+    layout: &Layout,
+    number: u64,
+    near: usize,
+    marks: &mut Marks,
+    call: &Call,
+) -> usize
+    requires { IsLayoutOf stack.now.stack (Some layout.now) }
+    ensures updated { marks.new.updated.items ≡ with_mark layout.now.places true number marks.old.updated.items call.now }
+    ensures answered { marks.new.answered.items ≡ with_mark layout.now.places false number marks.old.answered.items call.now }
+{
+    match updated_from(stack, layout, number, near, call) {
+        Some(place) => {
+            mark_both(marks, is_good_update(call), place);
+            place.saturating_add(1)
         }
+        None => near,
+    }
+}
+
+/// Marks the paths of these calls, so far as they are updates of the operation that were answered. Calls in the order of work are found
+/// at once, any other by halves.
+fn add_marks(stack: &StackState, layout: &Layout, number: u64, marks: &mut Marks, calls: &[Call])
+    requires { IsLayoutOf stack.now.stack (Some layout.now) }
+    ensures updated { marks.new.updated.items ≡ fold (with_mark layout.now.places true number) marks.old.updated.items calls.now }
+    ensures answered { marks.new.answered.items ≡ fold (with_mark layout.now.places false number) marks.old.answered.items calls.now }
+{
+    let mut near = 0;
+    for call in calls {
+        near = add_mark(stack, layout, number, near, marks, call);
     }
 }
 
 /// Which paths an operation updated, by place.
 fn marks_of(
     alloc: Global,
+    stack: &StackState,
     layout: &Layout,
-    good: bool,
     number: u64,
     calls: &[Call],
-) -> Result<Vec<bool>, AllocError>
-    ensures { IfOk result (λ marks. marks.items ≡ marks_of (length layout.now.rows.items) layout.now.places good number calls.now) }
+) -> Result<Marks, AllocError>
+    requires { IsLayoutOf stack.now.stack (Some layout.now) }
+    ensures updated { IfOk result (λ marks. marks.updated.items ≡ marks_of (length layout.now.rows.items) layout.now.places true number calls.now) }
+    ensures answered { IfOk result (λ marks. marks.answered.items ≡ marks_of (length layout.now.rows.items) layout.now.places false number calls.now) }
 {
-    let mut marks = no_marks(alloc, layout.rows.len())?;
-    for call in calls {
-        add_mark(layout, good, number, &mut marks, call);
-    }
+    let updated = vec![in alloc; false; layout.rows.len()]?;
+    let answered = vec![in alloc; false; layout.rows.len()]?;
+    let mut marks = Marks { updated, answered };
+    add_marks(stack, layout, number, &mut marks, calls);
     Ok(marks)
 }
 
@@ -161,7 +220,7 @@ fn read_each<'a>(
 ) -> Result<Vec<PathState<'a>>, AllocError>
     ensures { IfOk result (λ states. AreRead findings.now updated.now answered.now helds.now 0 rows.now states.items) }
 {
-    let mut states = Vec::new(alloc);
+    let mut states = Vec::with_capacity(alloc, rows.len())?;
     for (place, row) in rows.iter().enumerate() {
         states.push(state_at(findings, updated, answered, helds, place, row))?;
     }
@@ -181,13 +240,12 @@ pub(crate) fn states_by<'a>(
     ensures { IfOk result (λ states. AreStatesOf stack.now.stack states.items) }
 {
     let calls = stack.ledger().as_slice();
-    let updated = marks_of(alloc, layout, true, stack.operation(), calls)?;
-    let answered = marks_of(alloc, layout, false, stack.operation(), calls)?;
+    let marks = marks_of(alloc, stack, layout, stack.operation(), calls)?;
     read_each(
         alloc,
         findings,
-        updated.as_slice(),
-        answered.as_slice(),
+        marks.updated.as_slice(),
+        marks.answered.as_slice(),
         stack.held().as_slice(),
         layout.rows.as_slice(),
     )

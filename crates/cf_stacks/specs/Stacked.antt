@@ -6,6 +6,7 @@ use Rattle.cf_stacks.specs.declared.stack.StackState.TheInside.{Inside}
 use Rattle.cf_stacks.specs.Room.{StackStanding}
 use Rattle.cf_stacks.specs.Spare.{HaveOwnTokens, IsRoomFor}
 use Rattle.cf_effect.specs.Ahead.{AreKept}
+use Rattle.cf_effect.specs.Restoring.{IsRestoring}
 use Rattle.cf_effect.specs.Undoing.{IsUndoing}
 use Rattle.cf_effect.specs.Reserve.{HasSpare}
 use Rattle.cf_effect.specs.State.{state_of}
@@ -29,3 +30,4 @@ pub record IsStacked (i : Inside) : Type 0 where
   pub apart : HaveOwnTokens i.state.tokens.items
   pub findings : IfSome i.findings (AreKept (state_of i.state))
   pub undoing : IfSome i.undoing (IsUndoing (state_of i.state))
+  pub restoring : IfSome i.restoring (IsRestoring (state_of i.state))

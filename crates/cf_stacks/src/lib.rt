@@ -11,8 +11,8 @@ mod world;
 pub use cf_effect::{
     Abandoned, Ahead, Call, Findings, Found, GivenUp, HeardEntries, HeardEntry, Held, HeldStatus,
     Helds, KeptSet, KeptSets, Layout, Ledger, Leftover, Leftovers, Lines, Output, Outputs, Outset,
-    Pending, Pendings, Placed, Settled, Terms, Undoing, Way, begun, call_with, current_at,
-    is_in_progress, seen_in, source_for,
+    Pending, Pendings, Placed, Restoring, Settled, Terms, Undoing, Way, begun, call_with,
+    current_at, held_ranked, is_in_progress, seen_in, source_for,
 };
 pub use laws::{awaited_stays, repeat_is_awaited, room_stays, stay_apart};
 pub use stack::{StackState, Stacks};

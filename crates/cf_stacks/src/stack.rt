@@ -9,6 +9,7 @@ ghost use Rattle.cf_effect.specs.Fold.{effect_at, is_opening};
 ghost use Rattle.cf_effect.specs.Layout.{IsLayoutOf, source_members};
 ghost use Rattle.cf_effect.specs.End.{seen_now};
 ghost use Rattle.cf_effect.specs.Reply.{intending, terms_at};
+ghost use Rattle.cf_effect.specs.Restoring.{IsRestoring};
 ghost use Rattle.cf_effect.specs.Undoing.{IsUndoing};
 ghost use Rattle.cf_effect.specs.Bounds.{IsShortOutcomeOf};
 ghost use Rattle.cf_stacks.specs.Room.{StackStanding, calls_after, has_call, with_awaited, without_awaited};
@@ -26,9 +27,9 @@ use crate::room::{
 use cf_desired::Seen;
 use cf_effect::{
     Abandoned, Call, Findings, Found, HeardEntries, HeardEntry, Held, Helds, KeptSets, Layout,
-    Ledger, Leftovers, Lines, Outset, Pending, Pendings, State, Terms, Undoing, find_at,
-    findings_of, follow, follow_call, follow_deletion, follow_try, is_open, layout_of, look,
-    look_back,
+    Ledger, Leftovers, Lines, Outset, Pending, Pendings, Restoring, State, Terms, Undoing, find_at,
+    findings_of, follow, follow_call, follow_deletion, follow_restore, follow_restored, follow_try,
+    is_open, layout_of, look, look_back, look_restoring,
 };
 use cf_entry::{Entry, Status};
 use cf_export::Outputs;
@@ -48,6 +49,8 @@ pub struct StackState {
     findings: Option<Findings>,
     /// Which of its resources may be deleted, while a creation is rolled back.
     undoing: Option<Undoing>,
+    /// Which of the resources of before are still to be given back what they had, while an update is rolled back.
+    restoring: Option<Restoring>,
 }
 
 impl Model for StackState {
@@ -94,6 +97,13 @@ fn lose_undoing(undoing: &mut Option<Undoing>)
     drop(mem::replace(undoing, None));
 }
 
+/// Lets go what is kept of the rollback of an update that may be right no longer.
+fn lose_restoring(restoring: &mut Option<Restoring>)
+    ensures { restoring.new ≡ None }
+{
+    drop(mem::replace(restoring, None));
+}
+
 impl StackState {
     /// The stack with these numbers and lists; it takes no memory.
     pub(crate) fn of(alloc: Global, state: State) -> StackState
@@ -107,6 +117,7 @@ impl StackState {
             spare: 0,
             findings: None,
             undoing: None,
+            restoring: None,
         }
     }
 
@@ -181,6 +192,7 @@ impl StackState {
         self.spare = 0;
         lose(&mut self.findings);
         lose_undoing(&mut self.undoing);
+        lose_restoring(&mut self.restoring);
     }
 
     /// Leaves the stack so, with none of its calls awaited any more; it takes no memory.
@@ -194,6 +206,7 @@ impl StackState {
         self.spare = 0;
         lose(&mut self.findings);
         lose_undoing(&mut self.undoing);
+        lose_restoring(&mut self.restoring);
     }
 
     /// A call is awaited no more.
@@ -253,6 +266,7 @@ impl StackState {
         self.spare -= 1;
         lose(&mut self.findings);
         lose_undoing(&mut self.undoing);
+        lose_restoring(&mut self.restoring);
     }
 
     /// A call goes out, of which the stack hears; it takes no memory.
@@ -267,6 +281,13 @@ impl StackState {
             room,
         } = parts;
         follow_try(&self.state, call.number, &pending, &mut self.undoing);
+        follow_restore(
+            &self.state,
+            call.number,
+            &pending,
+            &entry,
+            &mut self.restoring,
+        );
         follow_call(&pending, &entry, &mut self.findings);
         self.state.intend(pending, call);
         self.state.hear(HeardEntry::new(entry), Some(line));
@@ -292,6 +313,7 @@ impl StackState {
         match take_room(&mut self.rooms, token) {
             Some(room) => {
                 follow_deletion(&self.state, &entry, &mut self.undoing);
+                follow_restored(&self.state, &entry, &mut self.restoring);
                 follow(&self.state, &entry, &mut self.findings);
                 take_outcome(&mut self.state, place, entry, room);
             }
@@ -436,6 +458,13 @@ impl StackState {
         self.undoing.as_ref()
     }
 
+    /// What is kept of the rollback of its update, where that was looked at.
+    pub fn restoring(&self) -> Option<&Restoring>
+        ensures { IfSome (option_copied result) (IsRestoring self.now.stack) }
+    {
+        self.restoring.as_ref()
+    }
+
     /// Findings of it, of which nothing is worked out yet.
     ///
     /// # Errors
@@ -468,14 +497,17 @@ impl StackState {
 
     /// Works out what the properties of each path come to all of whose needs have a resource, and which
     /// paths are ready while a creation goes forward; or which of its resources may be deleted, while a
-    /// creation is rolled back; where that is not known yet. After an error some of it may be worked out.
+    /// creation is rolled back, and which are to be given back what they had, while an update is; where
+    /// that is not known yet. After an error some of it may be worked out.
     pub(crate) fn look(&mut self, alloc: Global) -> Result<(), AllocError>
         ensures { self.new ≡ self.old }
     {
-        if matches!(self.state.status, Status::RollbackInProgress) {
-            look_back(alloc, &self.state, &mut self.undoing)
-        } else {
-            look(alloc, &self.state, &mut self.findings)
+        match self.state.status {
+            Status::RollbackInProgress => look_back(alloc, &self.state, &mut self.undoing),
+            Status::UpdateRollbackInProgress => {
+                look_restoring(alloc, &self.state, &mut self.restoring)
+            }
+            _ => look(alloc, &self.state, &mut self.findings),
         }
     }
 

@@ -4,13 +4,14 @@ use crate::flaws::add_flaw_of;
 use crate::forward::{Question, add_phase};
 use crate::library::Library;
 use crate::line::Line;
-use crate::stacks::add_stack;
+use crate::stacks::{add_lines, add_stack};
 use crate::steps::{add_coming, schemas_in};
 use crate::wishes::{add_deployment, add_wish};
 use crate::words::Words;
 use crate::worlds::Stepped;
 use cf_entry::{Entries, Entry};
 use cf_export::Pins;
+use cf_face::{Exit, list_report};
 use cf_stacks::{World, fold};
 use cf_tree::{TryClone, Txt};
 use std::alloc::{AllocError, Global};
@@ -151,6 +152,7 @@ fn add_of_stack(line: &mut Line, words: &mut Words, asked: &Asked, world: &World
 fn add_answer(line: &mut Line, words: &mut Words, asked: &Asked, world: &mut World) {
     match words.word() {
         "stacks" => add_stacks(line, world),
+        "list" => add_lines(line, list_report(line.alloc, world.stacks(), &Exit::Done)),
         "numbers" => add_numbers(line, world),
         "lanes" => add_lanes(line, world),
         "exports" => add_exports(line, world),

@@ -8,7 +8,7 @@ use cf_face::{Exit, report};
 use cf_stacks::{
     Call, HeardEntry, Held, HeldStatus, KeptSet, Outputs, Settled, StackState, call_with,
 };
-use cf_tree::{Deletion, Replace, Source, Txt};
+use cf_tree::{Deletion, NoMemory, Replace, Source, Txt};
 
 fn held_status_word(status: HeldStatus) -> &'static str {
     match status {
@@ -232,16 +232,21 @@ fn exit_of(words: &mut Words) -> Exit {
     }
 }
 
-/// The report on a stack after the exit of these words, without the end of its last line.
-fn add_report(line: &mut Line, words: &mut Words, name: &Txt, stack: &StackState) {
-    let exit = exit_of(words);
-    match report(line.alloc, name, stack, &exit) {
+/// A report, without the end of its last line.
+pub fn add_lines(line: &mut Line, report: Result<String, NoMemory>) {
+    match report {
         Ok(text) => match text.as_str().strip_suffix('\n') {
             Some(lines) => line.word(lines),
             None => line.word("no end of line"),
         },
         Err(_) => line.lose(),
     }
+}
+
+/// The report on a stack after the exit of these words.
+fn add_report(line: &mut Line, words: &mut Words, name: &Txt, stack: &StackState) {
+    let exit = exit_of(words);
+    add_lines(line, report(line.alloc, name, stack, &exit));
     drop(exit);
 }
 

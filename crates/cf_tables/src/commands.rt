@@ -29,6 +29,8 @@ fn command_text(told: &mut Told, command: &Command) {
         Command::ContinueRollback { stack, paths } => continuation(told, stack, paths),
         Command::Resume { stack } => told.named("resume ", stack),
         Command::Describe { stack } => told.named("describe ", stack),
+        Command::Events { stack } => told.named("events ", stack),
+        Command::List => told.put("list"),
         Command::Validate { template } => told.named("validate ", template),
     }
 }

@@ -25,7 +25,7 @@ pub record HasRun {D : Type 0} (g : Ghosts D) (o : LibraryUse) (entered ended : 
 
 pub has_run : {D : Type 0} (g : Ghosts D) (o : LibraryUse) (entered ended : BookNow D) (name : List ℕ) (t : Task) (state : Status) → CarriesOut g o entered ended name t (Ok state)
     → HasRun g o entered ended name t
-has_run g o entered ended name t state (ordered, is, (number, begun, (begins, lanes, rest, disk, grows), drives)) = record {
+has_run g o entered ended name t state (ordered, is, (number, begun, (begins, lanes, rest, disk, grows), (drives, few))) = record {
   ordered = ordered;
   orders = is;
   begun = begun;

@@ -1,5 +1,5 @@
--- The calls of a command: each had its Intent in the journal, where it stays, and lanes change by their fences and these calls alone.
-use Rattle.std.proofs.Common.{◌≡◌, inl, inr, ℕ, ◌≤◌, Bool, true, false, cond, List, [], Result, Ok, Err, sym, ◌∙◌, ap, subst}
+-- The calls of a command: each had its Intent in the journal, where it stays, they are few, and lanes change by their fences and them alone.
+use Rattle.std.proofs.Common.{◌≡◌, inl, inr, ℕ, ◌≤◌, Bool, true, false, cond, List, [], Result, Ok, Err, sym, ◌∙◌, ap, subst, arith}
 use Rattle.std.specs.Bool.{IsTrue}
 use Rattle.cf_tree.specs.Lists.{In}
 use Rattle.cf_disk.specs.declared.disk.Disk.{Ghosts as DiskGhosts}
@@ -30,16 +30,18 @@ use Rattle.cf_top.specs.Performed.{DoesTask, ExitsFor}
 use Rattle.cf_top.specs.Refusals.{LibraryUse}
 use Rattle.cf_top.specs.Telling.{exit_by, exit_for, outcome_exit}
 use Rattle.cf_workers.specs.Turning.{cause_of}
-use Rattle.cf_workers.proofs.Intending.{AreCalls, AreHeld, all_same, calls_none, handed_logs, handed_silent, held_run, home_lanes, raised_silent, raised_then, stops_at, uncalled, without_logs}
+use Rattle.cf_workers.proofs.Entered.{described, stands_entered}
+use Rattle.cf_workers.proofs.FewCalls.{none_few}
+use Rattle.cf_workers.proofs.Intending.{AreCalls, HasCalls, all_same, calls_none, handed_logs, handed_silent, held_run, home_lanes, names_in, raised_silent, raised_then, stops_at, uncalled, without_logs}
 
 -- a task over a book on which no call was made before
 module _ {D : Type 0} (g : DiskGhosts D) (start : D) (first : List LaneNow) (entered ended : BookNow D) (within : IsTrue g.tells → g.moment start ≤ g.moment entered.disk)
     (are : AreCalls first (lanes_in entered.lanes)) (silent : (l : LaneNow) → In l (lanes_in entered.lanes) → l.log ≡ []) where
-  held_done : (o : LibraryUse) (name : List ℕ) (t : Task) (result : Result Status Exit) → DoesTask g o entered ended name t result
-      → AreCalls first (lanes_in ended.lanes) × AreHeld g start ended
-  held_done o name t (Ok status) (ordered, is, runs) = held_run g start first entered ended within are silent ordered (Ok status) runs
-  held_done o name t (Err x) (inl (refused, still)) = uncalled g start first entered ended within are silent ended still.1.lanes
-  held_done o name t (Err x) (inr (ordered, is, (f, exits, runs))) = held_run g start first entered ended within are silent ordered (Err f) runs
+  held_done : (IsTrue g.tells → g.moment start ≤ g.moment ended.disk) → (o : LibraryUse) (name : List ℕ) (t : Task) (result : Result Status Exit)
+      → DoesTask g o entered ended name t result → HasCalls g start first entered ended
+  held_done now o name t (Ok status) (ordered, is, runs) = held_run g start first entered ended within are silent now ordered (Ok status) runs
+  held_done now o name t (Err x) (inl (refused, still)) = uncalled g start first entered ended within are silent still.1.lanes now
+  held_done now o name t (Err x) (inr (ordered, is, (f, exits, runs))) = held_run g start first entered ended within are silent now ordered (Err f) runs
 
 -- with these answers no call was made over a book that was entered
 module _ {D : Type 0} (g : DiskGhosts D) (o : LibraryUse) (entered ended : BookNow D) (name : List ℕ) (t : Task) where
@@ -76,14 +78,18 @@ module _ {D H : Type 0} (g : DiskGhosts D) (h : HandlerGhosts H) where
       lanes = handed_in h handlers';
       given_back = handed_logs g h handlers';
       called = k;
-      each = λ l call i j. absurd (in_none (subst (In call) (handed_silent g h handlers' l i) j));
+      calls = [];
+      logs = λ l i. handed_silent g h handlers' l i;
+      on = λ c i. absurd (in_none i);
+      each = λ c i. absurd (in_none i);
+      few = λ told schemas all agree. none_few;
       none = λ q l i. handed_silent g h handlers' l i;
     }
 
     pub none_asked : handlers' ≡ handlers → CallsAreIntended g h disk disk' handlers handlers' x
     none_asked q = fenced_only (subst (λ (hs : List H). AreAfterCalls (handed_in h handlers) (handed_in h hs)) (sym q) (all_same (handed_in h handlers)))
 
-  module _ (m : Outside D H) where
+  module _ (seen_may_stay : (d : D) → IsTrue g.tells → g.may_leave d (g.seen d)) (m : Outside D H) where
     abbrev AreIntended : Exit → Type 0
     AreIntended x = CallsAreIntended g h m.disk m.disk' m.handlers m.handlers' x
 
@@ -113,8 +119,18 @@ module _ {D H : Type 0} (g : DiskGhosts D) (h : HandlerGhosts H) where
       by (es, over, enters, known, room, opens) (disk_is, handlers_are, none, ended_known) = record {
         lanes = lanes_in ended.lanes;
         given_back = without_logs ended.lanes ∙ sym handlers_are;
-        called = raised_then (handed_in h m.handlers) enters.raised (lanes_in ended.lanes) (epoch_over es) enters.fences held.0;
-        each = λ l call i j. subst (λ d. IsIntendedIn g m.disk d l.name call) (sym disk_is) (held.1 l call i j).intent;
+        called = raised_then (handed_in h m.handlers) enters.raised (lanes_in ended.lanes) (epoch_over es) enters.fences has.held.lanes;
+        calls = has.calls;
+        logs = has.held.logs;
+        on = λ c i. subst (In c.lane) (names_in ended.lanes) (has.held.on c i);
+        each = λ c i. subst (λ d. IsIntendedIn g m.disk d c) (sym disk_is) (has.held.each c i).intent;
+        few = λ told schemas all agree.
+            let (life, stands, holds) =
+            stands_entered g h m.disk m.disk' m.handlers m.handlers' es entered ended over.0 enters w.stretch.leads w.stretch.lanes none disk_is handlers_are ended_known
+            seen_may_stay told schemas all agree in
+            has.few schemas life
+            (described g h m.disk m.disk' m.handlers m.handlers' es entered ended over.0 enters w.stretch.leads w.stretch.lanes none disk_is handlers_are ended_known
+            seen_may_stay told schemas all agree) stands holds;
         none = λ q l i. silent l (subst (λ (ls : List BookLane). In l (lanes_in ls)) (quiet q) i);
       } where
         home_so : lanes_in entered.lanes ≡ enters.raised
@@ -123,9 +139,15 @@ module _ {D H : Type 0} (g : DiskGhosts D) (h : HandlerGhosts H) where
         silent : (l : LaneNow) → In l (lanes_in entered.lanes) → l.log ≡ []
         silent l i = raised_silent (handed_in h m.handlers) enters.raised (epoch_over es) enters.fences (handed_silent g h m.handlers) l (subst (In l) home_so i)
 
-        held : AreCalls enters.raised (lanes_in ended.lanes) × AreHeld g m.disk ended
-        held =
-            held_done g m.disk enters.raised entered ended (λ told. (opens told).later) (subst (AreCalls enters.raised) (sym home_so) (calls_none enters.raised)) silent m.library name
+        within : IsTrue g.tells → g.moment m.disk ≤ g.moment entered.disk
+        within told = (opens told).later
+
+        now : IsTrue g.tells → g.moment m.disk ≤ g.moment ended.disk
+        now told = let before = within told in let after = (w.stretch.grows told).later in omega (arith, before, after)
+
+        has : HasCalls g m.disk enters.raised entered ended
+        has =
+            held_done g m.disk enters.raised entered ended within (subst (AreCalls enters.raised) (sym home_so) (calls_none enters.raised)) silent now m.library name
             t result w.does
 
     came : (name : List ℕ) (t : Task) (outcome : Result StackState Exit) → CameTo g h m name t outcome → AreIntended (outcome_exit outcome)
@@ -143,7 +165,17 @@ module _ {D H : Type 0} (g : DiskGhosts D) (h : HandlerGhosts H) where
     -- another exit, after which a lane may have been called
     told_as : (x y : Exit) → (CallsNoLane y → ⊥) → AreIntended x → AreIntended y
     told_as x y never k =
-        record { lanes = k.lanes; given_back = k.given_back; called = k.called; each = k.each; none = λ q l i. absurd (never q) }
+        record {
+          lanes = k.lanes;
+          given_back = k.given_back;
+          called = k.called;
+          calls = k.calls;
+          logs = k.logs;
+          on = k.on;
+          each = k.each;
+          few = k.few;
+          none = λ q l i. absurd (never q);
+        }
 
     pub intended_alone : (p : Printing) (words : List (List ℕ)) (result : Exit) → AloneTells g h m p words result
         → CallsAreIntended g h m.disk m.disk' m.handlers m.handlers' result

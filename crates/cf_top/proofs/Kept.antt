@@ -161,7 +161,7 @@ module _ {D H : Type 0} (g : DiskGhosts D) (h : HandlerGhosts H) where
       → MayDoubt x ⊎ (ended.doubt ≡ None)
   doubt_done m name t entered ended x none (inl (refused, still)) = inr (still.0.doubt ∙ none)
   doubt_done m name t entered ended x none (inr (ordered, is, (f, exits, inl (begins, lanes, known)))) = doubt_begun entered ended ordered f x none exits begins
-  doubt_done m name t entered ended x none (inr (ordered, is, (f, exits, inr (number, begun, goes, (last, course, stops, disk, grows))))) =
+  doubt_done m name t entered ended x none (inr (ordered, is, (f, exits, inr (number, begun, goes, ((last, course, stops, disk, grows), few))))) =
       doubt_stopped number last ended f x exits stops
 
   -- the book was entered, and closed

@@ -609,7 +609,7 @@ module _ {D H : Type 0} (g : DiskGhosts D) (h : HandlerGhosts H) (m : Outside D 
       by : HasEntered g h m entered → IsClosed g h m ended → DoesTask g m.library entered ended name t (Err exit.DiskFault) → ⊥
       by enters closes (inl (refused, still)) = early m.library (schemas_in entered.lanes) (world_left entered.entries) name t exit.DiskFault refused
       by (es, over, enters, known, room, opens) closes (inr (ordered, is, (f, exits, inl (begins, lanes, known')))) = began ordered f exits room.count closes.0 begins
-      by (es, over, enters, known, room, opens) closes (inr (ordered, is, (f, exits, inr (number, begun, begins, (last, course, stops, keeps, grows))))) =
+      by (es, over, enters, known, room, opens) closes (inr (ordered, is, (f, exits, inr (number, begun, begins, ((last, course, stops, keeps, grows), few))))) =
           let first = room.count in
           let second = (begins.3).count in
           let third = keeps.count in halted number last f exits (omega (arith, first, second, third)) closes.0 stops

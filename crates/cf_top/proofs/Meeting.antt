@@ -1,13 +1,9 @@
 -- What a call met outside, from what stands in its contract.
 use Rattle.std.proofs.Common.{List}
-use Rattle.cf_io.specs.declared.library.Library.{Ghosts as LibraryGhosts}
 use Rattle.cf_io.specs.declared.sink.Sink.{Ghosts as SinkGhosts}
 use Rattle.cf_top.specs.Outside.{Outside, Printing}
 use Rattle.cf_top.specs.Refusals.{LibraryUse}
-
--- a library before and after
-abbrev pub used : {L : Type 0} → LibraryGhosts L → L → L → LibraryUse
-used g now new = record { texts = g.texts now; faults = g.count now; faults' = g.count new; misses = g.missed now; misses' = g.missed new }
+pub use Rattle.cf_top.specs.Refusals.{use_of as used}
 
 -- a sink before and after
 abbrev pub printing : {K : Type 0} → SinkGhosts K → K → K → Printing

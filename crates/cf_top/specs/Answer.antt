@@ -1,5 +1,5 @@
 -- What a command that drives no handlers comes to, and the program's choice between the two top calls (this project's own).
-use Rattle.std.specs.Prelude.{◌≡◌, ◌⊎◌, ℕ, Bool, true, false, not, List, Option, Some, None, Ok, Err, IsTrue, ⊤}
+use Rattle.std.specs.Prelude.{◌≡◌, ◌⊎◌, ℕ, Bool, true, false, not, List, Option, Some, None, option_and_then, Ok, Err, IsTrue, ⊤}
 use Rattle.cf_tree.specs.declared.template.Template.{Template}
 use Rattle.cf_template.specs.Refusals.{Reading}
 use Rattle.cf_template.specs.Whole.{template_of}
@@ -8,15 +8,17 @@ use Rattle.cf_io.specs.Library.{StandsUnder}
 use Rattle.cf_journal.specs.Record.{KeepsRecord}
 use Rattle.cf_entry.specs.declared.entry.Entry.{Entry}
 use Rattle.cf_desired.specs.declared.flaw.Flaw.TheVariants.{TemplateMissing}
-use Rattle.cf_effect.specs.World.{StackState, stack_at}
+use Rattle.cf_effect.specs.World.{World}
 use Rattle.cf_face.specs.declared.words.Command.{Command}
-use Rattle.cf_face.specs.declared.words.Command.TheVariants.{Describe, Validate}
+use Rattle.cf_face.specs.declared.words.Question.{Question}
+use Rattle.cf_face.specs.declared.words.Question.TheVariants.{Tell, Validate}
+use Rattle.cf_face.specs.declared.words.Subject.{Subject}
 use Rattle.cf_face.specs.declared.exit.Exit.{Exit}
 use Rattle.cf_face.specs.declared.exit.Exit.TheVariants as exit
 use Rattle.cf_face.specs.declared.exit.Refusal.{Refusal}
 use Rattle.cf_face.specs.declared.exit.Refusal.TheVariants.{Read, Plan}
 use Rattle.cf_face.specs.Exit.{ending_text}
-use Rattle.cf_face.specs.Words.{command_of, drives}
+use Rattle.cf_face.specs.Words.{command_of, drives, question_of}
 use Rattle.cf_face.specs.Print.{PrintTells}
 use Rattle.cf_disk.specs.declared.disk.Disk.{Ghosts as DiskGhosts}
 use Rattle.cf_handler.specs.declared.handler.Handler.{Ghosts as HandlerGhosts}
@@ -25,13 +27,17 @@ use Rattle.cf_top.specs.Crash.{WroteNothing}
 use Rattle.cf_top.specs.Opening.{HasOpenCause, Holds}
 use Rattle.cf_top.specs.Refusals.{IsMiss, IsUnasked, LibraryUse}
 use Rattle.cf_top.specs.Outside.{NothingTouched, Outside, Printing}
-use Rattle.cf_top.specs.Telling.{described_text, described_exit}
+use Rattle.cf_top.specs.Telling.{subject_exit, subject_text}
 use Rattle.cf_top.specs.Alone.{IsAnswered}
 
 -- the command drives no handlers
 abbrev pub is_asking : Option Command → Bool
 is_asking (Some c) = not (drives c)
 is_asking None = false
+
+-- what the words ask, if they are such a command
+abbrev pub question_words : List (List ℕ) → Option Question
+question_words words = option_and_then question_of (command_of words)
 
 -- why what was found under a template's name is no template
 abbrev pub unread_as : List ℕ → Reading Template → Option Refusal
@@ -55,28 +61,28 @@ Validates o name _ = ⊥
 abbrev pub Prints : Printing → List ℕ → Exit → Exit → Type 0
 Prints p text e result = PrintTells p.held p.held' p.faults p.faults' text e result
 
--- a description is of the stack that the entries leave, and writes none; or the journal was not opened
-abbrev pub DescribesIn : List ℕ → Printing → Option StackState → Exit → Type 0
-DescribesIn name p st result = Prints p (described_text name st) (described_exit st) result
+-- What the journal tells is of the world that its entries leave, and writes none; or the journal was not opened.
+abbrev pub TellsIn : Subject → Printing → World → Exit → Type 0
+TellsIn what p x result = Prints p (subject_text what x) (subject_exit what x) result
 
-abbrev pub Describes : Bool → List ℕ → List ℕ → ℕ → ℕ → Printing → List ℕ → Exit → Type 0
-Describes tells bytes bytes' faults faults' p name result =
-    ((es : List Entry) × Holds tells bytes es × Holds tells bytes' es × DescribesIn name p (stack_at name (world_left es)) result)
+abbrev pub TellsFrom : Bool → List ℕ → List ℕ → ℕ → ℕ → Printing → Subject → Exit → Type 0
+TellsFrom tells bytes bytes' faults faults' p what result =
+    ((es : List Entry) × Holds tells bytes es × Holds tells bytes' es × TellsIn what p (world_left es) result)
     ⊎ ((e : Exit) × HasOpenCause tells bytes faults faults' e × Prints p (ending_text e) e result)
 
--- words that are neither a validation nor a description: they ask for nothing, or memory is short
+-- words that ask nothing, or memory is short
 abbrev pub AsksNothing : List (List ℕ) → Exit → Type 0
 AsksNothing words e = ((e ≡ exit.BadWords) × (is_asking (command_of words) ≡ false)) ⊎ (e ≡ exit.NoMemory)
 
--- all of it: the words are a validation, which asks the library alone, or a description, which asks the disk alone and keeps its record,
--- or neither
+-- all of it: the words are a validation, which asks the library alone, or ask what the journal tells, which asks the disk alone and keeps
+-- its record, or neither
 abbrev pub AnswerTells : LibraryUse → Bool → List ℕ → List ℕ → ℕ → ℕ → Printing → List (List ℕ) → Exit → Type 0
 AnswerTells o tells bytes bytes' faults faults' p words result =
-    ((template : List ℕ) × (e : Exit) × (command_of words ≡ Some (Validate template)) × Validates o template e × (bytes' ≡ bytes)
+    ((template : List ℕ) × (e : Exit) × (question_words words ≡ Some (Validate template)) × Validates o template e × (bytes' ≡ bytes)
     × (faults' ≡ faults)
     × Prints p (ending_text e) e result)
-    ⊎ (((stack : List ℕ) × (command_of words ≡ Some (Describe stack)) × IsUnasked o × (IsTrue tells → KeepsRecord bytes bytes')
-    × Describes tells bytes bytes' faults faults' p stack result)
+    ⊎ (((what : Subject) × (question_words words ≡ Some (Tell what)) × IsUnasked o × (IsTrue tells → KeepsRecord bytes bytes')
+    × TellsFrom tells bytes bytes' faults faults' p what result)
     ⊎ ((e : Exit) × AsksNothing words e × IsUnasked o × (bytes' ≡ bytes) × (faults' ≡ faults) × Prints p (ending_text e) e result))
 
 -- no lane is called, and a disk that tells its bytes keeps its record, in what a crash may leave too

@@ -1,6 +1,7 @@
 -- What is found in the library under a template's name, and why a deployment of it is refused before anything is made (this project's own).
 use Rattle.std.specs.Prelude.{◌≡◌, ℕ, List, [], ◌∷◌, Option, Some, None, Result, Ok, Err, if◌then◌else◌, option_map, ⊤}
 use Rattle.cf_io.specs.Library.{Texts, StandsUnder}
+use Rattle.cf_io.specs.declared.library.Library.{Ghosts as LibraryGhosts}
 use Rattle.cf_tree.specs.Counts.{HasRisen}
 use Rattle.cf_tree.specs.declared.source.Source.{Source}
 use Rattle.cf_tree.specs.declared.template.Template.{Template}
@@ -32,6 +33,16 @@ pub record LibraryUse : Type 0 where
   pub faults' : ℕ
   pub misses : ℕ
   pub misses' : ℕ
+
+-- so a library was used, by what it is before and after
+abbrev pub use_of : {L : Type 0} → LibraryGhosts L → L → L → LibraryUse
+use_of l before after = record {
+  texts = l.texts before;
+  faults = l.count before;
+  faults' = l.count after;
+  misses = l.missed before;
+  misses' = l.missed after;
+}
 
 -- the library was not asked
 abbrev pub IsUnasked : LibraryUse → Type 0

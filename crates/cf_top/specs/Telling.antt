@@ -1,15 +1,17 @@
--- What a command tells of a stack (this project's own).
+-- What a command tells of a stack, and of all stacks (this project's own).
 use Rattle.std.specs.Prelude.{ℕ, List, Option, Some, None, Result, Ok, Err, if◌then◌else◌}
 use Rattle.cf_entry.specs.declared.status.Status.{Status}
 use Rattle.cf_entry.specs.declared.status.Status.TheVariants as status
-use Rattle.cf_effect.specs.World.{StackState}
+use Rattle.cf_effect.specs.World.{StackState, World, stack_at}
 use Rattle.cf_plan.specs.Follow.{failed_of}
 use Rattle.cf_core.specs.Turned.{was_continued}
 use Rattle.cf_face.specs.declared.exit.Exit.{Exit}
 use Rattle.cf_face.specs.declared.exit.Exit.TheVariants as exit
 use Rattle.cf_face.specs.declared.exit.StackFault.TheVariants.{NoStack}
 use Rattle.cf_face.specs.Exit.{ending_text}
-use Rattle.cf_face.specs.Report.{stack_report}
+use Rattle.cf_face.specs.Report.{events_report, list_report, stack_report}
+use Rattle.cf_face.specs.declared.words.Subject.{Subject}
+use Rattle.cf_face.specs.declared.words.Subject.TheVariants as subject
 use Rattle.cf_workers.specs.Turning.{cause_of}
 
 -- A rollback that was continued has done what was asked; any other one tells why the operation turned back.
@@ -45,3 +47,19 @@ described_text name None = ending_text (exit.StackRefused NoStack)
 abbrev pub described_exit : Option StackState → Exit
 described_exit (Some st) = exit.Done
 described_exit None = exit.StackRefused NoStack
+
+-- so do its events
+abbrev pub events_text : Option StackState → List ℕ
+events_text (Some st) = events_report st exit.Done
+events_text None = ending_text (exit.StackRefused NoStack)
+
+-- what is told of a subject over a world, and the exit
+abbrev pub subject_text : Subject → World → List ℕ
+subject_text (subject.Stack name) x = described_text name (stack_at name x)
+subject_text (subject.Events name) x = events_text (stack_at name x)
+subject_text subject.Stacks x = list_report x.stacks exit.Done
+
+abbrev pub subject_exit : Subject → World → Exit
+subject_exit (subject.Stack name) x = described_exit (stack_at name x)
+subject_exit (subject.Events name) x = described_exit (stack_at name x)
+subject_exit subject.Stacks x = exit.Done

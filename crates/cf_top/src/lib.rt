@@ -2,6 +2,7 @@
 //! resources.
 #![tactic(auto)]
 
+mod asking;
 mod deployment;
 mod doing;
 mod history;

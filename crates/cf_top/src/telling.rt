@@ -9,12 +9,12 @@ ghost use Rattle.cf_plan.specs.Follow.{failed_in, failed_of};
 ghost use Rattle.cf_face.specs.declared.exit.Exit.TheVariants.{RolledBack};
 ghost use Rattle.cf_face.specs.Print.{PrintTells};
 ghost use Rattle.cf_face.specs.Report.{stack_report};
-ghost use Rattle.cf_top.specs.Telling.{described_exit, described_text, exit_back, exit_for};
+ghost use Rattle.cf_top.specs.Telling.{exit_back, exit_for};
 ghost use Rattle.cf_core.specs.Turned.{cause_in, is_continuation};
 ghost use Rattle.cf_workers.specs.Turning.{cause_of};
 
 use cf_entry::{Begun, Cause, Entry, Phase, Status};
-use cf_face::{Exit, StackFault, print_exit, put, report};
+use cf_face::{Exit, put, report};
 use cf_io::Sink;
 use cf_stacks::{HeardEntry, StackState, World};
 use cf_tree::{Names, NoMemory, TryClone, Txt};
@@ -266,7 +266,7 @@ fn exit_for(alloc: Global, stack: &StackState) -> Result<Exit, AllocError>
 }
 
 /// Prints the report on a stack with an exit, and answers that.
-fn tell_stack<K: Sink>(
+pub fn tell_stack<K: Sink>(
     alloc: Global,
     out: &mut K,
     name: &Txt,
@@ -308,23 +308,5 @@ pub fn tell_over<K: Sink>(alloc: Global, out: &mut K, name: &Txt, world: &World)
     match world.stack(name.as_str()) {
         Some(stack) => tell_ended(alloc, out, name, stack),
         None => unreachable!(),
-    }
-}
-
-/// Prints the report on the stack of a name, or that there is none.
-pub fn describe<K: Sink>(alloc: Global, out: &mut K, name: &Txt, world: &World) -> Exit
-    ensures faults { K.count out.old ≤ K.count out.new }
-    ensures tells { PrintTells (K.held out.old) (K.held out.new) (K.count out.old) (K.count out.new)
-        (described_text name.now (stack_at name.now world.now.world)) (described_exit (stack_at name.now world.now.world)) result }
-{
-    match world.stack(name.as_str()) {
-        Some(stack) => tell_stack(alloc, out, name, stack, Exit::Done),
-        None => print_exit(
-            alloc,
-            out,
-            Exit::StackRefused {
-                fault: StackFault::NoStack,
-            },
-        ),
     }
 }

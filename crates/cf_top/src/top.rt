@@ -16,15 +16,15 @@ ghost use Rattle.cf_top.specs.Outside.{DoesOn, DoesOver, TellsOutcome};
 ghost use Rattle.cf_workers.specs.Ordering.{IsJustOpened};
 ghost use Rattle.cf_top.specs.Tasks.{task_words};
 
+use crate::asking::{read_question, tell_from};
 use crate::doing::do_task;
-use crate::opening::world_on;
 use crate::schemas::schemas_of;
-use crate::telling::{describe, tell_over};
+use crate::telling::tell_over;
 use crate::validation::validate;
 use cf_book::{Book, EnterFault, Refused, enter};
 use cf_disk::Disk;
 use cf_entry::Status;
-use cf_face::{Command, Exit, Task, print_exit, read_words};
+use cf_face::{Exit, Question, Task, print_exit, read_words};
 use cf_handler::Handler;
 use cf_io::{Library, Sink};
 use cf_schema::Schemas;
@@ -241,12 +241,13 @@ fn run_words<L: Library, K: Sink, D: Disk, H: Handler>(
 /// After `Done`, `RolledBack` and `Failed` a crash leaves the journal as it is (`lasts`). After each answer it leaves the entries that
 /// were acknowledged, or, where the disk failed, these and the one entry whose append failed; where no entry was written, what it might
 /// have left before the command, or the same record (`leaves`). At each moment of the command a crash leaves what it might have left
-/// before, or the old entries and a first part of the new ones, behind these at most the one that was being written: the opening with the
-/// lanes that were handed in, or the one that comes next (`any_moment`). Each lane is given back as it was handed in but for its fence and
-/// for the calls in its log. Of each of these calls there was a moment of the command at which its intent was in all that a crash might
-/// leave, and its outcome was not; and in all that a crash might leave from then on the intent is (`intended`). That the call is made after
-/// that moment and not before is no clause of this call, since a disk and a lane have no clock in common: a lane is called by its lease
-/// alone, and a lease is handed out only then (`grant` of `cf_book`). The room of the disk is from 16 to 4,294,967,296 bytes.
+/// before, or the old entries and a first part of the new ones, behind all of these at most one that could come next there: the opening
+/// with the lanes that were handed in, or behind it a beginning, a step or an outcome (`any_moment`). Each lane is given back as it was
+/// handed in but for its fence and for the calls of the command in its log. Of each of them there was a moment of the command at which its
+/// intent was in all that a crash might leave, and its token was open; and in all that a crash might leave from then on the intent is.
+/// Where disk and lanes agreed, at most 54 of them are of one path (`intended`). That a call is made after that moment and not before is
+/// no clause of this call, since a disk and a lane have no clock in common: a lane is called by its lease alone, and a lease is handed out
+/// only then (`grant` of `cf_book`). The room of the disk is from 16 to 4,294,967,296 bytes.
 pub fn alone<L: Library, K: Sink, D: Disk, H: Handler>(
     alloc: Global,
     words: &[Txt],
@@ -290,10 +291,11 @@ pub fn alone<L: Library, K: Sink, D: Disk, H: Handler>(
 /// lanes' types: prints its report and answers its exit.
 ///
 /// `describe STACK` prints the stack of the name that the journal leaves, with its parameters, and its resources with
-/// their physical ids; it asks nothing of the library. `validate TEMPLATE` reads the template that the library holds under
-/// its name, and asks nothing of the disk.
+/// their physical ids. `events STACK` prints what became of it, a line for each entry of the journal that concerns it. `list` prints
+/// the name, the status and the number of each stack that is not deleted. These ask nothing of the library. `validate TEMPLATE` reads
+/// the template that the library holds under its name, and asks nothing of the disk.
 ///
-/// `BadWords` comes where the words are no such command. Of a description then come `DiskFault` and `NotAJournal` as the disk
+/// `BadWords` comes where the words are no such command. Of what the journal tells then come `DiskFault` and `NotAJournal` as the disk
 /// is read, and `NoStack` where no stack has the name; of a validation `LibraryFault`, and `TemplateRefused` where
 /// the library holds none or it can't be read. No entry is written: after each answer the disk has the entries that it
 /// had, and bytes that are no journal are as they were. At each moment and after it a crash leaves what it might have left
@@ -325,36 +327,12 @@ pub fn answer<L: Library, K: Sink, D: Disk>(
         D.tells (D.seen disk.old) (D.seen disk.new) (D.count disk.old) (D.count disk.new)
         (record { held = K.held out.old; held' = K.held out.new; faults = K.count out.old; faults' = K.count out.new }) words.now result }
 {
-    match read_words(alloc, words) {
-        Ok(Some(Command::Validate { template })) => {
+    match read_question(alloc, words) {
+        Ok(Some(Question::Validate(template))) => {
             let exit = validate(alloc, library, &template);
             print_exit(alloc, out, exit)
         }
-        Ok(Some(Command::Describe { stack })) => {
-            match world_on(alloc, disk) {
-                Ok(world) => {
-                    let told = describe(alloc, out, &stack, &world);
-                    drop(world);
-                    told
-                }
-                Err(exit) => print_exit(alloc, out, exit),
-            }
-        }
-        Ok(
-            Some(
-                Command::Deploy {
-                    stack: _,
-                    template: _,
-                    given: _,
-                },
-            ),
-        ) => print_exit(alloc, out, Exit::BadWords),
-        Ok(Some(Command::ContinueRollback { stack: _, paths: _ })) => print_exit(
-            alloc,
-            out,
-            Exit::BadWords,
-        ),
-        Ok(Some(Command::Resume { stack: _ })) => print_exit(alloc, out, Exit::BadWords),
+        Ok(Some(Question::Tell(what))) => tell_from(alloc, out, disk, &what),
         Ok(None) => print_exit(alloc, out, Exit::BadWords),
         Err(NoMemory) => print_exit(alloc, out, Exit::NoMemory),
     }
@@ -374,10 +352,11 @@ fn is_asking(alloc: Global, words: &[Txt]) -> Result<bool, NoMemory>
     }
 }
 
-/// Does what the words say: a command that drives handlers goes to `alone`, whatever the number of workers, and one that
-/// doesn't to `answer`, with the lanes' schemas. The conditions and answers are theirs, that disk and lanes agree after each answer
-/// where they agreed before (`agree`), that each call had its intent in the journal (`intended`), and what a crash may leave after an
-/// operation that ended (`lasts`), after each answer (`leaves`) and at each moment (`any_moment`). What follows of commands one after another, with crashes between them, is `histories_agree`.
+/// Does what the words say: a command that drives handlers goes to `alone`, whatever the number of workers, and one that doesn't to
+/// `answer`, with the lanes' schemas. The conditions and answers are theirs, that disk and lanes agree after each answer where they agreed
+/// before (`agree`), that each call had its intent in the journal and that they are few (`intended`), and what a crash may leave after an
+/// operation that ended (`lasts`), after each answer (`leaves`) and at each moment (`any_moment`). What follows of commands one after
+/// another, with crashes between them, is `histories_agree`.
 pub fn cfstack<L: Library, K: Sink, D: Disk + Send, H: Handler + Send>(
     alloc: Global,
     words: &[Txt],

@@ -1,24 +1,23 @@
 -- Disk and lanes agree after a command: the life to which its events lead, at rest.
-use Rattle.std.proofs.Common.{◌≡◌, ◌⊎◌, inl, inr, ℕ, Bool, true, false, ◌||◌, not, ◌&&◌, cond, List, [], ◌∷◌, ◌++◌, Option, Some, None, map, find, option_map, refl, sym, ◌∙◌, ap, subst, true≢false, arith}
+use Rattle.std.proofs.Common.{◌≡◌, inl, inr, ℕ, Bool, true, false, ◌||◌, not, ◌&&◌, cond, List, [], ◌∷◌, Option, Some, None, map, option_map, refl, sym, ◌∙◌, ap, subst, true≢false}
 use Rattle.std.specs.Str.{bytes_eq}
 use Rattle.cf_tree.specs.Lists.{In, is_among}
 use Rattle.cf_tree.specs.Lists.In.{here, there}
 use Rattle.cf_tree.specs.Named.{all_differ}
 use Rattle.cf_handler.specs.Fence.{FencedLane}
-use Rattle.cf_handler.specs.declared.handler.Handler.{Ghosts as HandlerGhosts}
 use Rattle.cf_entry.specs.declared.entry.Entry.{Entry}
 use Rattle.cf_schema.specs.declared.described.Schema.{Schema}
 use Rattle.cf_lane.specs.Lanes.{LaneNow}
 use Rattle.cf_plan.specs.Lanes.{Lane, lane_at}
-use Rattle.cf_plan.specs.Life.{Lease, Life}
+use Rattle.cf_plan.specs.Life.{Life}
 use Rattle.cf_plan.proofs.ChangedLists.{find_mapped}
 use Rattle.cf_plan.proofs.CreatedStays.{found_one}
 use Rattle.cf_plan.proofs.Members.{false_from}
 use Rattle.cf_plan.proofs.Listed.{bytes_same, in_cons, in_map, in_none, same_bytes}
 use Rattle.cf_core.specs.Theorem.{HoldsAlways}
 use Rattle.cf_core.proofs.Always.{holds_keeps_promises}
-use Rattle.cf_book.specs.Lives.{AreLanesOf, told_lane}
-use Rattle.cf_book.specs.State.{BookLane, at_home}
+use Rattle.cf_book.specs.Lives.{AreLanesOf}
+use Rattle.cf_book.specs.State.{at_home}
 use Rattle.cf_workers.specs.Agreement.{AgreeOn, all_as_told, as_told, at_rest, state_told}
 use Rattle.cf_workers.specs.Leading.{KeepOthers}
 use Rattle.cf_workers.proofs.Rests.{rests}

@@ -1,8 +1,6 @@
 -- No lane is ahead of a book that stands for a life in which what always holds holds: no call of it is too old.
-use Rattle.std.proofs.Common.{◌≡◌, ◌⊎◌, inl, inr, ℕ, ◌<◌, ◌≤◌, List, [], Option, Some, None, option_map, refl, sym, ap, subst, arith}
+use Rattle.std.proofs.Common.{◌≡◌, ◌⊎◌, inl, inr, ℕ, ◌<◌, ◌≤◌, List, [], Option, Some, None, option_map, ap, subst, arith}
 use Rattle.std.specs.Option.{option_map_or}
-use Rattle.cf_tree.specs.Lists.{In}
-use Rattle.cf_tree.specs.declared.request.Answer.{Answer}
 use Rattle.cf_tree.specs.declared.request.Answer.TheVariants as answer
 use Rattle.cf_disk.specs.declared.disk.Disk.{Ghosts}
 use Rattle.cf_handler.specs.Fence.{FencedLane}
@@ -13,7 +11,7 @@ use Rattle.cf_plan.specs.Lanes.{Lane, lane_at}
 use Rattle.cf_plan.specs.Life.{Life, world_of}
 use Rattle.cf_core.specs.Theorem.{HoldsAlways}
 use Rattle.cf_book.specs.Events.{reply_for}
-use Rattle.cf_book.specs.Lives.{StandsFor, told_lane}
+use Rattle.cf_book.specs.Lives.{StandsFor}
 use Rattle.cf_book.specs.Record.{world_left}
 use Rattle.cf_book.specs.State.{BookNow, at_home}
 use Rattle.cf_book.specs.declared.stop.StopFault.TheVariants as stop

@@ -24,7 +24,7 @@ use Rattle.cf_book.specs.declared.refused.EnterFault.{EnterFault}
 use Rattle.cf_book.specs.declared.refused.EnterFault.TheVariants as fault
 use Rattle.cf_book.specs.declared.stop.StopFault.{StopFault}
 use Rattle.cf_book.specs.declared.stop.StopFault.TheVariants as stop
-use Rattle.cf_workers.specs.Along.{IsAlong, IsBeingWritten, IsNextEntry, IsOldOrAlong}
+use Rattle.cf_workers.specs.Along.{IsAlong, MayBeNext, IsNextEntry, IsOldOrAlong}
 use Rattle.cf_workers.specs.Ordering.{RunsOrder, schemas_in}
 use Rattle.cf_workers.specs.Growing.{Extends, IsBetween}
 use Rattle.cf_workers.specs.Driving.{AreSameLanes, CouldNotWrite, Grows, IsAtRest, LacksOutcome, Stops, name_and_schema}
@@ -82,7 +82,7 @@ module _ {D : Type 0} (g : DiskGhosts D) where
   pub run_next : (entered ended : BookNow D) (ordered : Order) (f : StopFault) → IsPrepared (schemas_in entered.lanes) (world_left entered.entries) ordered → entered.doubt ≡ None
       → RunsOrder g entered ended ordered (Err f) → DoubtsNext (schemas_in entered.lanes) ended
   run_next entered ended ordered f prepared none (inl (begins, lanes, known)) = begun_next (schemas_in entered.lanes) entered ended ordered f prepared none begins
-  run_next entered ended ordered f prepared none (inr (number, begun, goes, (last, course, stops, disk, grows))) =
+  run_next entered ended ordered f prepared none (inr (number, begun, goes, ((last, course, stops, disk, grows), few))) =
       subst (λ ss. DoubtsNext ss ended) (schemas_same begun.lanes last.lanes (written g number begun goes.2 course).same ∙ ap schemas_in goes.1)
       (stopped_next number last ended f (written g number begun goes.2 course).rest stops)
 
@@ -99,9 +99,9 @@ all_or_less (n ∷ now) (x ∷ es) more e q =
 all_or_less (n ∷ []) [] more e q = let first : e ≡ n = cc in inr (ap (λ y. y ∷ []) (sym first))
 all_or_less (n ∷ m ∷ now) [] more e q = let never : ⊥ = cc in absurd never
 
--- The entries go no further than those that are there in the end, but for the one that was being written.
+-- The entries go no further than those that are there in the end, but for one that could come next.
 abbrev pub GoesNoFurther : List LaneNow → List Entry → List Entry → List Entry → Type 0
-GoesNoFurther lanes old now last = Extends now last ⊎ ((e : Entry) × (now ≡ last ++ e ∷ []) × IsBeingWritten lanes old last e)
+GoesNoFurther lanes old now last = Extends now last ⊎ ((e : Entry) × (now ≡ last ++ e ∷ []) × MayBeNext lanes old last e)
 
 -- The record that the disk has in the end: it begins with the old one, and the opening goes no further.
 pub record EndsAt (lanes : List LaneNow) (old : List Entry) (bytes' : List ℕ) : Type 0 where

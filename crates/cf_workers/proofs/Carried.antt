@@ -35,6 +35,7 @@ use Rattle.cf_book.specs.declared.stop.StopFault.{StopFault}
 use Rattle.cf_book.specs.declared.stop.StopFault.TheVariants as stop
 use Rattle.cf_workers.specs.declared.drive.Drove.{Drove}
 use Rattle.cf_workers.specs.declared.drive.Drove.TheVariants.{Over, Stopped}
+use Rattle.cf_workers.specs.Counting.{AreFewIn, calls_in}
 use Rattle.cf_workers.specs.Growing.{Extends}
 use Rattle.cf_workers.specs.Driving.{Course, EndsWith, HasEnd, IsAtRest, LacksOutcome, Stops, name_and_schema, names_of}
 use Rattle.cf_workers.specs.Leading.{Drives, DrivesAs, IsStretch, LeadsOn, LeadsWith}
@@ -263,6 +264,10 @@ module _ {D : Type 0} (g : Ghosts D) (old begun : BookNow D) (ordered : Order) (
       lanes = ap (map name_and_schema) k.lanes;
     }
 
+    -- the life that the begun book stands for then
+    led : (schemas : List Schema) (life : Life) → DescribeLanes schemas old.lanes → StandsFor old life → HoldsAlways schemas life → LeadsWith schemas life begun begun.entries
+    led schemas life described stands holds = first.leads schemas life described stands holds begun.entries (inl refl)
+
     module _ (new : BookNow D) (drove : Drove) (so_driven : DrivesAs g number begun new begun.stopped drove) where
       drives : Drives g number begun new drove
       drives = subst (λ o. DrivesAs g number begun new o drove) running so_driven
@@ -270,13 +275,18 @@ module _ {D : Type 0} (g : Ghosts D) (old begun : BookNow D) (ordered : Order) (
       whole : IsStretch g old new
       whole = stretch_on g old begun new so.certain first drives.stretch
 
+      few : AreFewIn old (calls_in g number begun new drove drives.tells)
+      few schemas life described stands holds =
+          let l = led schemas life described stands holds in
+          drives.few schemas l.after (subst (DescribeLanes schemas) (sym k.lanes) described) l.stands (events_hold schemas life l.after l.events holds l.happen).0
+
     -- and ended
     pub is_over : (new : BookNow D) (status : Status) → DrivesAs g number begun new begun.stopped (Over status) → NoneOut new.lanes → KnowsDisk g new
         → AreApart (world_left old.entries) → IsJustOpened old.entries → IsPrepared (schemas_in old.lanes) (world_left old.entries) ordered → IsCarried g old new ordered (Ok status)
     is_over new status driven out known apart opened prepared =
         let d : Drives g number begun new (Over status) = drives new (Over status) driven in
         record {
-          runs = (number, begun, is_begun, d.tells);
+          runs = (number, begun, is_begun, (d.tells, few new (Over status) driven));
           leaves = λ name on. record {
             stack = stack_of name on d;
             stretch = whole new (Over status) driven;
@@ -319,12 +329,12 @@ module _ {D : Type 0} (g : Ghosts D) (old begun : BookNow D) (ordered : Order) (
     is_cut new fault driven out known =
         let d : Drives g number begun new (Stopped fault) = drives new (Stopped fault) driven in
         record {
-          runs = inr (number, begun, is_begun, d.tells);
+          runs = inr (number, begun, is_begun, (d.tells, few new (Stopped fault) driven));
           leaves = λ name on. record {
             stack = tt;
             stretch = whole new (Stopped fault) driven;
             never_fenced = λ schemas life described stands holds place fence epoch q.
-                let l : LeadsWith schemas life begun begun.entries = first.leads schemas life described stands holds begun.entries (inl refl) in
+                let l = led schemas life described stands holds in
                 d.never_old schemas l.after (subst (DescribeLanes schemas) (sym k.lanes) described) l.stands
                 (events_hold schemas life l.after l.events holds l.happen).0 place fence epoch (ap Stopped q);
             home = out;

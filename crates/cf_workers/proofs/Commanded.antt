@@ -1,28 +1,22 @@
 -- Disk and lanes agree after a command, by what the book was as it was entered and as it was closed.
-use Rattle.std.proofs.Common.{◌≡◌, ◌⊎◌, inl, inr, ℕ, Bool, true, false, cond, List, [], ◌∷◌, ◌++◌, Option, Some, None, Result, Ok, Err, map, find, option_map, refl, sym, ◌∙◌, ap, subst, true≢false, arith}
-use Rattle.std.specs.Bool.{IsTrue}
+use Rattle.std.proofs.Common.{◌≡◌, ℕ, true, List, [], ◌∷◌, Option, Some, None, map, option_map, refl, sym, ◌∙◌, ap, subst}
 use Rattle.std.specs.Str.{bytes_eq}
-use Rattle.cf_tree.specs.Lists.{In, is_among}
-use Rattle.cf_tree.specs.Lists.In.{here, there}
+use Rattle.cf_tree.specs.Lists.{In}
+use Rattle.cf_tree.specs.Lists.In.{here}
 use Rattle.cf_tree.specs.Named.{all_differ}
-use Rattle.cf_disk.specs.declared.disk.Disk.{Ghosts as DiskGhosts}
 use Rattle.cf_handler.specs.Fence.{FencedLane}
-use Rattle.cf_handler.specs.declared.handler.Handler.{Ghosts as HandlerGhosts}
 use Rattle.cf_entry.specs.declared.entry.Entry.{Entry}
-use Rattle.cf_journal.specs.Record.{record_of}
 use Rattle.cf_schema.specs.declared.described.Schema.{Schema}
 use Rattle.cf_schema.specs.Kinds.{found}
 use Rattle.cf_lane.specs.Lanes.{LaneNow}
 use Rattle.cf_plan.specs.Lanes.{Lane, lane_at}
 use Rattle.cf_plan.specs.Life.{Lease, Life}
 use Rattle.cf_plan.proofs.Causing.{map_in}
-use Rattle.cf_plan.proofs.Listed.{bytes_same, in_map, same_bytes}
+use Rattle.cf_plan.proofs.Listed.{in_map}
 use Rattle.cf_core.specs.Theorem.{HoldsAlways}
-use Rattle.cf_book.specs.Entering.{IsBefore}
-use Rattle.cf_book.specs.Fences.{handed_in}
 use Rattle.cf_book.specs.Lives.{AreLanesOf, AreLeasesOf, DescribeLanes, lease_of, told_lane}
 use Rattle.cf_book.specs.State.{BookLane, NoneOut, at_home}
-use Rattle.cf_workers.specs.Agreement.{Agree, AgreeOn, AreAmong, all_as_told, at_rest}
+use Rattle.cf_workers.specs.Agreement.{AgreeOn, all_as_told}
 use Rattle.cf_workers.specs.Leading.{KeepOthers}
 use Rattle.cf_workers.proofs.Agreeing.{WereLanes, agree_at, lanes_after}
 

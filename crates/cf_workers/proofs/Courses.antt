@@ -1,5 +1,5 @@
 -- What a course of a run tells of its calls: the outcomes are their answers in order, and so are the logs of the lanes.
-use Rattle.std.proofs.Common.{◌≡◌, ◌⊎◌, inl, inr, ℕ, zero, suc, ◌≤◌, Bool, true, false, cond, List, [], ◌∷◌, ◌++◌, Option, Some, None, map, option_map, refl, sym, ◌∙◌, ap, subst, append-nil, append_assoc, true≢false, arith}
+use Rattle.std.proofs.Common.{◌≡◌, ℕ, zero, suc, ◌≤◌, Bool, true, false, cond, List, [], ◌∷◌, ◌++◌, Option, Some, None, option_map, refl, sym, ◌∙◌, ap, subst, append-nil, append_assoc, true≢false, arith}
 use Rattle.std.specs.Prelude.{filter, slice_get}
 use Rattle.std.specs.List.{cons_option, filter_map}
 use Rattle.std.specs.Str.{bytes_eq}
@@ -10,17 +10,16 @@ use Rattle.cf_disk.specs.declared.disk.Disk.{Ghosts}
 use Rattle.cf_entry.specs.declared.entry.Entry.{Entry}
 use Rattle.cf_entry.specs.declared.entry.Entry.TheVariants as entry
 use Rattle.cf_entry.specs.declared.entry.Reply.{Reply}
-use Rattle.cf_lane.specs.Lanes.{LaneNow}
 use Rattle.cf_lane.specs.declared.told.Told.{Told}
 use Rattle.cf_plan.proofs.Differ.{one_id}
 use Rattle.cf_plan.proofs.Listed.{bytes_same, same_bytes}
 use Rattle.cf_next.specs.Chosen.{entry_for}
 use Rattle.cf_next.specs.declared.step.Next.{Next}
 use Rattle.cf_next.specs.declared.step.Next.TheVariants as next
-use Rattle.cf_book.specs.Events.{outcome_by, reply_for}
+use Rattle.cf_book.specs.Events.{outcome_by}
 use Rattle.cf_book.specs.Record.{with_doubt}
 use Rattle.cf_book.specs.State.{BookLane, BookNow, at_home, come_home, with_lane}
-use Rattle.cf_workers.specs.Driving.{AreInTurn, CallMade, Course, HasAnswered, IsAtRest, IsIntended, IsOutcome, Round, calls_of, calls_on, intended, is_outcome, outcome_in, step_of}
+use Rattle.cf_workers.specs.Driving.{AreInTurn, CallAt, CallMade, Course, HasAnswered, IsAtRest, Round, call_at, calls_of, calls_on, intended, is_outcome, outcome_in, step_of}
 
 -- what is at a place is in the list
 pub at_place : {A : Type 0} (xs : List A) (k : ℕ) (x : A) → slice_get xs k ≡ Some x → In x xs
@@ -69,9 +68,9 @@ outcomes_told {D} {g} {number} {first} {last} (Course.goes {old} course (Round.c
     ∙ ap (λ es. es ++ outcome_by made.told r ∷ []) (doubted number (step_of made) old.entries (entry_for number (step_of made)) refl ∙ outcomes_told course)
     ∙ append_assoc (filter is_outcome first.entries) (filter_map outcome_in (calls_of course)) (outcome_by made.told r ∷ [])
     ∙ ap (λ es. filter is_outcome first.entries ++ es) (ap (λ es. filter_map outcome_in (calls_of course) ++ es) told
-    ∙ sym (filter_map-append outcome_in (calls_of course) ((made.lane.name, made.told) ∷ [])))
+    ∙ sym (filter_map-append outcome_in (calls_of course) (call_at made ∷ [])))
   where
-    told : outcome_by made.told r ∷ [] ≡ filter_map outcome_in ((made.lane.name, made.told) ∷ [])
+    told : outcome_by made.told r ∷ [] ≡ filter_map outcome_in (call_at made ∷ [])
     told = sym (ap (λ (o : Option Reply). cons_option (option_map (outcome_by made.told) o) []) outcome.reply)
 
 -- a call more, behind the others
@@ -80,26 +79,26 @@ turn_more : (first : ℕ) (ts : List Told) (last : ℕ) (t : Told) → AreInTurn
 turn_more first [] last t le b a = (omega (arith, le, b), a, omega arith)
 turn_more first (s ∷ ts) last t turns b a = (turns.0, turns.1, turn_more s.after ts last t turns.2 b a)
 
-on_more : (name : List ℕ) (calls : List (List ℕ × Told)) (lane : List ℕ) (t : Told) (b : Bool) → bytes_eq name lane ≡ b
-    → calls_on name (calls ++ (lane, t) ∷ []) ≡ calls_on name calls ++ cond b (t ∷ []) []
-on_more name calls lane t b q =
-    filter_map-append (λ (c : List ℕ × Told). cond (bytes_eq name c.0) (Some c.1) None) calls ((lane, t) ∷ [])
-    ∙ ap (λ es. calls_on name calls ++ es) (by (bytes_eq name lane) q)
+pub on_more : (name : List ℕ) (calls : List CallAt) (c : CallAt) (b : Bool) → bytes_eq name c.lane ≡ b
+    → calls_on name (calls ++ c ∷ []) ≡ calls_on name calls ++ cond b (c.told ∷ []) []
+on_more name calls c b q =
+    filter_map-append (λ (d : CallAt). cond (bytes_eq name d.lane) (Some d.told) None) calls (c ∷ [])
+    ∙ ap (λ es. calls_on name calls ++ es) (by (bytes_eq name c.lane) q)
   where
-    by : (z : Bool) → z ≡ b → cons_option (cond z (Some t) None) [] ≡ cond b (t ∷ []) []
-    by true e = subst (λ (y : Bool). t ∷ [] ≡ cond y (t ∷ []) []) e refl
-    by false e = subst (λ (y : Bool). ◌≡◌ {A = List Told} [] (cond y (t ∷ []) [])) e refl
+    by : (z : Bool) → z ≡ b → cons_option (cond z (Some c.told) None) [] ≡ cond b (c.told ∷ []) []
+    by true e = subst (λ (y : Bool). c.told ∷ [] ≡ cond y (c.told ∷ []) []) e refl
+    by false e = subst (λ (y : Bool). ◌≡◌ {A = List Told} [] (cond y (c.told ∷ []) [])) e refl
 
-abbrev IsAnswered : List BookLane → ℕ → BookLane → List (List ℕ × Told) → Type 0
+abbrev IsAnswered : List BookLane → ℕ → BookLane → List CallAt → Type 0
 IsAnswered lanes k was calls = (now : BookLane) × (slice_get lanes k ≡ Some now) × HasAnswered was.lane now.lane (calls_on was.lane.name calls)
 
 module _ {D : Type 0} (number : ℕ) (old : BookNow D) (differ : (x y : BookLane) → In x old.lanes → In y old.lanes → x.lane.name ≡ y.lane.name → x ≡ y)
-    (made : CallMade number old.entries old.lanes) (k : ℕ) (was : BookLane) (calls : List (List ℕ × Told)) (before : IsAnswered old.lanes k was calls) where
+    (made : CallMade number old.entries old.lanes) (k : ℕ) (was : BookLane) (calls : List CallAt) (before : IsAnswered old.lanes k was calls) where
   abbrev mid : BookLane
   mid = before.0
 
-  abbrev more : List (List ℕ × Told)
-  more = calls ++ (made.lane.name, made.told) ∷ []
+  abbrev more : List CallAt
+  more = calls ++ call_at made ∷ []
 
   -- the lane of the call
   it : bytes_eq made.after.name mid.lane.name ≡ true → HasAnswered was.lane made.after (calls_on was.lane.name more)
@@ -107,9 +106,9 @@ module _ {D : Type 0} (number : ℕ) (old : BookNow D) (differ : (x y : BookLane
     name = ap (λ (b : BookLane). b.lane.name) same_after ∙ before.2.name;
     log = made.called.log ∙ ap (λ l. l ++ made.told ∷ []) (ap (λ (b : BookLane). b.lane.log) same ∙ before.2.log)
         ∙ append_assoc was.lane.log (calls_on was.lane.name calls) (made.told ∷ [])
-        ∙ ap (λ l. was.lane.log ++ l) (sym (on_more was.lane.name calls made.lane.name made.told true mine));
+        ∙ ap (λ l. was.lane.log ++ l) (sym (on_more was.lane.name calls (call_at made) true mine));
     counts =
-        subst (λ l. AreInTurn was.lane.count l made.after.count) (sym (on_more was.lane.name calls made.lane.name made.told true mine))
+        subst (λ l. AreInTurn was.lane.count l made.after.count) (sym (on_more was.lane.name calls (call_at made) true mine))
         (subst (λ n. AreInTurn was.lane.count (calls_on was.lane.name calls ++ made.told ∷ []) n) made.called.count_after
         (turn_more was.lane.count (calls_on was.lane.name calls) mid.lane.count made.told before.2.counts
         (omega (arith, made.called.count_before, ap (λ (b : BookLane). b.lane.count) same)) made.called.cause.0));
@@ -129,7 +128,7 @@ module _ {D : Type 0} (number : ℕ) (old : BookNow D) (differ : (x y : BookLane
   -- another one
   another : bytes_eq made.after.name mid.lane.name ≡ false → HasAnswered was.lane mid.lane (calls_on was.lane.name more)
   another q =
-      subst (HasAnswered was.lane mid.lane) (sym (append-nil (calls_on was.lane.name calls)) ∙ sym (on_more was.lane.name calls made.lane.name made.told false apart)) before.2
+      subst (HasAnswered was.lane mid.lane) (sym (append-nil (calls_on was.lane.name calls)) ∙ sym (on_more was.lane.name calls (call_at made) false apart)) before.2
     where
       apart : bytes_eq was.lane.name made.lane.name ≡ false
       apart = by (bytes_eq was.lane.name made.lane.name) refl where
@@ -155,5 +154,5 @@ logs_told rest Course.begins k was at = (was, at, record { name = refl; log = sy
 logs_told rest (Course.goes course (Round.moves n e chosen writes other fits wrote lanes) grows now) k was at =
     subst (λ ls. IsAnswered ls k was (calls_of course)) (sym lanes) (logs_told rest course k was at)
 logs_told {D} {g} {number} rest (Course.goes {old} course (Round.calls made r intends outcome wrote lanes) grows now) k was at =
-    subst (λ ls. IsAnswered ls k was (calls_of course ++ (made.lane.name, made.told) ∷ [])) (sym lanes)
+    subst (λ ls. IsAnswered ls k was (calls_of course ++ call_at made ∷ [])) (sym lanes)
     (after_it number old (one_id (λ (b : BookLane). b.lane.name) old.lanes (rests rest course).differ) made k was (calls_of course) (logs_told rest course k was at))

@@ -1,6 +1,5 @@
 -- What a crash may leave while entries are appended: how one stretch of a run goes on from another.
-use Rattle.std.proofs.Common.{◌≡◌, ◌⊎◌, inl, inr, ⊎_elim, ℕ, List, [], ◌∷◌, ◌++◌, Option, Some, None, Ok, refl, sym, ◌∙◌, ap, subst, append_assoc, append-nil, arith}
-use Rattle.std.specs.Bool.{IsTrue}
+use Rattle.std.proofs.Common.{◌≡◌, inl, inr, ⊎_elim, ℕ, List, [], ◌∷◌, ◌++◌, Option, Some, None, Ok, refl, sym, ◌∙◌, ap, subst, append_assoc, append-nil, arith}
 use Rattle.cf_disk.specs.Disk.{LeavesOnly}
 use Rattle.cf_disk.specs.declared.disk.Disk.{Ghosts}
 use Rattle.cf_entry.specs.declared.entry.Entry.{Entry}

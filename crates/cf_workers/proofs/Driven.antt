@@ -1,6 +1,5 @@
 -- What one round of a run comes to, from what its calls of the book answer.
-use Rattle.std.proofs.Common.{◌≡◌, ◌⊎◌, inl, inr, ⊎_elim, ℕ, ◌==◌, ◌||◌, ◌<◌, ◌≤◌, ◌+◌, nat_lt, Bool, true, false, cond, if◌then◌else◌, List, [], ◌∷◌, ◌++◌, Option, Some, None, Result, Ok, Err, map, find, fold, option_map, refl, sym, ◌∙◌, ap, subst, append-nil, arith}
-use Rattle.std.specs.Bool.{IsTrue}
+use Rattle.std.proofs.Common.{◌≡◌, ◌⊎◌, inl, inr, ℕ, ◌==◌, ◌||◌, ◌≤◌, Bool, true, false, cond, List, [], ◌∷◌, ◌++◌, Option, Some, None, Result, Ok, Err, map, find, option_map, refl, sym, ◌∙◌, ap, subst, append-nil, arith}
 use Rattle.std.specs.List.{filter_map}
 use Rattle.std.specs.Option.{option_or}
 use Rattle.std.proofs.lemmas.List.Folds.{find-append}
@@ -30,26 +29,25 @@ use Rattle.cf_entry.specs.declared.entry.Entry.{Entry}
 use Rattle.cf_entry.specs.declared.entry.Entry.TheVariants as entry
 use Rattle.cf_entry.specs.declared.entry.Reply.{Reply}
 use Rattle.cf_entry.specs.declared.status.Status.{Status}
-use Rattle.cf_journal.specs.Record.{length_of, record_of}
+use Rattle.cf_journal.specs.Record.{length_of}
 use Rattle.cf_journal.proofs.Moments.{weaker}
 use Rattle.cf_plan.proofs.Differ.{one_id}
 use Rattle.cf_plan.proofs.Listed.{bytes_same, in_map, same_bytes}
 use Rattle.std.proofs.lemmas.Option.{slice_get-map}
 use Rattle.std.proofs.lemmas.Bool.{cases_lt}
-use Rattle.cf_lane.specs.Calling.{Granted, IsCalled, answered_lane, granted_in, granted_of, leased_lane, told_of}
+use Rattle.cf_lane.specs.Calling.{Granted, IsCalled, granted_in, granted_of, leased_lane}
 use Rattle.cf_lane.specs.Lanes.{LaneNow, lane_now}
-use Rattle.cf_lane.specs.declared.lease.Answered.{Answered}
 use Rattle.cf_lane.specs.declared.lease.Lease.{Lease}
 use Rattle.cf_lane.specs.declared.told.Told.{Told}
 use Rattle.cf_next.specs.Chosen.{entry_for, leases_of, schemas_of}
 use Rattle.cf_next.specs.declared.home.Home.{Home}
 use Rattle.cf_next.specs.declared.step.Next.{Next}
 use Rattle.cf_next.specs.declared.step.Next.TheVariants as next
-use Rattle.cf_book.specs.Calls.{HasAnswer, IsBack, IsHome, SettlesBy, SettlesReply, StopsCall, stopped_by}
+use Rattle.cf_book.specs.Calls.{IsBack, IsHome, SettlesReply, StopsCall}
 use Rattle.cf_book.specs.Ended.{end_status, ended_in, with_end}
 use Rattle.cf_book.specs.Events.{outcome_by, reply_for}
-use Rattle.cf_book.specs.Granting.{ComesNext, GrantsAs, GrantsStep, HasBegun, IsDurable, IsLent, IsLacking, IsOpenCall, IsStill, KeepsLanes, NeverStuck, TakesStep, WritesCall}
-use Rattle.cf_book.specs.Record.{Appends, AppendsTo, Fits, HasFaulted, HasStopped, IsUnwritten, KeepsDisk, KeepsMoments, KnowsDisk, LeavesOneMore, Writes, need_of, with_doubt, world_left}
+use Rattle.cf_book.specs.Granting.{ComesNext, GrantsStep, IsDurable, IsLent, IsLacking, IsOpenCall, IsStill, KeepsLanes, NeverStuck, TakesStep, WritesCall}
+use Rattle.cf_book.specs.Record.{Fits, HasFaulted, HasStopped, KeepsDisk, KeepsMoments, LeavesOneMore, Writes, with_doubt, world_left}
 use Rattle.cf_book.specs.State.{BookLane, BookNow, NoneOut, at_home, come_home, home_of, lent_for, lent_out, with_lane}
 use Rattle.cf_book.proofs.Settles.{counted}
 use Rattle.cf_book.proofs.Standing.{OfHome, it, other, of_home}
@@ -59,7 +57,7 @@ use Rattle.cf_book.specs.declared.granting.Grant.TheVariants as grant
 use Rattle.cf_book.specs.declared.stop.StopFault.{StopFault}
 use Rattle.cf_book.specs.declared.stop.StopFault.TheVariants as stop
 use Rattle.cf_workers.specs.Growing.{Extends, IsBetween}
-use Rattle.cf_workers.specs.Driving.{AreSameLanes, CallMade, CouldNotWrite, EndsWith, Grows, HasEnd, IsAtRest, IsIntended, IsOutcome, LacksOutcome, LacksStep, Round, StopsAfter, StopsBefore, intended, name_and_schema, names_of}
+use Rattle.cf_workers.specs.Driving.{AreSameLanes, CallMade, CouldNotWrite, EndsWith, Grows, HasEnd, IsAtRest, IsIntended, IsOutcome, LacksOutcome, LacksStep, Round, StopsAfter, StopsBefore, name_and_schema, names_of}
 use Rattle.cf_workers.proofs.Crashes.{extends_doubt, extends_itself, extends_on, further, is_at}
 
 -- at each moment of a call of the book a crash leaves what was there, or one entry more

@@ -1,10 +1,9 @@
 -- The stack on which an operation begins keeps it until the end, which leaves its status there.
-use Rattle.std.proofs.Common.{◌≡◌, ◌⊎◌, inl, inr, ℕ, ◌+◌, ◌<◌, ◌==◌, ◌&&◌, Bool, true, false, cond, List, [], ◌∷◌, ◌++◌, Option, Some, None, find, refl, sym, ◌∙◌, ap, subst, arith}
+use Rattle.std.proofs.Common.{◌≡◌, ◌⊎◌, inl, inr, ℕ, ◌+◌, ◌==◌, ◌&&◌, Bool, true, false, List, [], ◌∷◌, ◌++◌, Option, Some, None, find, refl, sym, ◌∙◌, ap, subst, arith}
 use Rattle.std.specs.Cmp.{first_so}
 use Rattle.std.specs.Option.{option_map_or}
 use Rattle.std.proofs.lemmas.Bool.{eq-eqb, eqb-true}
 use Rattle.cf_tree.specs.Keys.{put, value_at}
-use Rattle.cf_tree.specs.Lists.{In}
 use Rattle.cf_tree.specs.declared.request.Request.{Request}
 use Rattle.cf_tree.proofs.Lookups.{put_here}
 use Rattle.cf_disk.specs.declared.disk.Disk.{Ghosts}
@@ -20,7 +19,7 @@ use Rattle.cf_entry.specs.declared.turn.Phase.{Phase}
 use Rattle.cf_entry.specs.declared.turn.Why.{Why}
 use Rattle.cf_effect.specs.Effect.{leaving}
 use Rattle.cf_effect.specs.Fold.{effect_at, world_after}
-use Rattle.cf_effect.specs.Status.{begun, is_in_progress, turned}
+use Rattle.cf_effect.specs.Status.{begun, is_in_progress}
 use Rattle.cf_effect.specs.Words.{pending_of}
 use Rattle.cf_effect.specs.World.{StackState, World, empty_world, is_going, known_stack, stack_at, stack_of_operation}
 use Rattle.cf_stacks.specs.Apart.{AreApart}
@@ -45,8 +44,8 @@ use Rattle.cf_book.specs.Ended.{end_status, ended_in, with_end}
 use Rattle.cf_book.specs.Events.{outcome_by}
 use Rattle.cf_book.specs.Granting.{ComesNext}
 use Rattle.cf_book.specs.Record.{with_doubt, world_left}
-use Rattle.cf_book.specs.State.{BookLane, BookNow}
-use Rattle.cf_workers.specs.Driving.{Course, EndsWith, HasEnd, Round, intended, step_of}
+use Rattle.cf_book.specs.State.{BookNow}
+use Rattle.cf_workers.specs.Driving.{Course, EndsWith, HasEnd, Round, intended}
 use Rattle.cf_workers.proofs.Driven.{now_ended}
 
 -- one entry more

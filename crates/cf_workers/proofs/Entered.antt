@@ -1,9 +1,8 @@
 -- A book that was entered over a disk and lanes that agree, and was closed, leaves them agreeing.
-use Rattle.std.proofs.Common.{◌≡◌, ◌⊎◌, inl, inr, ℕ, Bool, true, false, ◌||◌, cond, not, ◌&&◌, List, [], ◌∷◌, ◌++◌, Option, Some, None, Result, Ok, Err, map, option_map, refl, sym, ◌∙◌, ap, subst, true≢false}
+use Rattle.std.proofs.Common.{◌≡◌, inl, inr, ℕ, true, List, [], ◌∷◌, Some, Result, Ok, map, refl, sym, ◌∙◌, ap, subst}
 use Rattle.std.specs.Bool.{IsTrue}
 use Rattle.std.specs.Str.{bytes_eq}
 use Rattle.cf_tree.specs.Lists.{In, is_among}
-use Rattle.cf_tree.specs.Lists.In.{here, there}
 use Rattle.cf_tree.specs.Named.{all_differ}
 use Rattle.cf_disk.specs.declared.disk.Disk.{Ghosts as DiskGhosts}
 use Rattle.cf_handler.specs.declared.handler.Handler.{Ghosts as HandlerGhosts}
@@ -12,7 +11,7 @@ use Rattle.cf_journal.specs.Record.{record_of}
 use Rattle.cf_schema.specs.declared.described.Schema.{Schema}
 use Rattle.cf_lane.specs.Lanes.{LaneNow}
 use Rattle.cf_plan.specs.Lanes.{Lane, lane_at}
-use Rattle.cf_plan.specs.Life.{Event, Life, Opened, Whole, life_after}
+use Rattle.cf_plan.specs.Life.{Life, Opened, Whole, life_after}
 use Rattle.cf_plan.proofs.Causing.{map_in}
 use Rattle.cf_plan.proofs.Listed.{in_map}
 use Rattle.cf_core.specs.Theorem.{HoldsAlways}
@@ -23,12 +22,12 @@ use Rattle.cf_book.specs.Fences.{EachRaised, handed_in}
 use Rattle.cf_book.specs.Lives.{AreEntriesOf, AreLanesOf, DescribeLanes, StandsFor, told_lane}
 use Rattle.cf_book.specs.Record.{HasKnown, KnowsDisk, with_doubt}
 use Rattle.cf_book.specs.State.{BookLane, BookNow, NoneOut, at_home}
-use Rattle.cf_workers.specs.Agreement.{Agree, AgreeOn, AreAmong, KeepsAgreement, all_as_told, at_rest}
+use Rattle.cf_workers.specs.Agreement.{Agree, AgreeOn, KeepsAgreement, all_as_told, at_rest}
 use Rattle.cf_workers.specs.Driving.{AreSameLanes, name_and_schema, names_of}
 use Rattle.cf_workers.specs.Leading.{KeepOthers, LeadsOn, LeadsWith}
-use Rattle.cf_workers.proofs.Commanded.{agrees_then, lanes_are, named_as, names_now, none_leased, same_names_now, still_described}
+use Rattle.cf_workers.proofs.Commanded.{agrees_then, lanes_are, named_as, names_now, none_leased, still_described}
 use Rattle.cf_workers.proofs.Lives.{among, ends, keep_both}
-use Rattle.cf_workers.proofs.Raised.{AreNamed, raisings_keep}
+use Rattle.cf_workers.proofs.Raised.{raisings_keep}
 
 -- the raising of fences keeps names and schemas
 pub raised_same : (now raised : List LaneNow) (epoch : ℕ) → EachRaised now raised epoch → map named_as raised ≡ map named_as now

@@ -1,39 +1,51 @@
--- A run makes few calls: at most 54 for each path that it calls.
-use Rattle.std.proofs.Common.{◌≡◌, inl, inr, ℕ, ◌+◌, ◌*◌, ◌≤◌, ◌==◌, ◌&&◌, Bool, true, false, cond, List, [], ◌∷◌, ◌++◌, Option, Some, None, length, length-append, map, refl, sym, ◌∙◌, ap, subst, arith}
+-- A run makes few calls: at most 54 of one path.
+use Rattle.std.proofs.Common.{◌≡◌, inl, inr, ℕ, ◌+◌, ◌≤◌, ◌==◌, Bool, true, false, cond, List, [], ◌∷◌, ◌++◌, Option, Some, None, length, length-append, map, refl, sym, ◌∙◌, ap, subst, arith}
 use Rattle.std.specs.Prelude.{filter}
 use Rattle.std.specs.Cmp.{first_so}
 use Rattle.std.specs.Option.{option_map_or}
 use Rattle.std.specs.Str.{bytes_eq}
 use Rattle.std.proofs.lemmas.Bool.{eq-eqb, eqb-true}
-use Rattle.std.proofs.lemmas.List.{length-map}
+use Rattle.std.proofs.lemmas.List.{length-map, map-append}
 use Rattle.cf_tree.specs.Lists.{In}
 use Rattle.cf_disk.specs.declared.disk.Disk.{Ghosts}
 use Rattle.cf_schema.specs.declared.described.Schema.{Schema}
 use Rattle.cf_entry.specs.declared.entry.Entry.{Entry}
-use Rattle.cf_effect.specs.Calls.{call_under, is_call, own_calls}
+use Rattle.cf_effect.specs.Calls.{is_call, own_calls}
 use Rattle.cf_effect.specs.Status.{is_in_progress}
-use Rattle.cf_effect.specs.World.{StackState, empty_world, is_going, stack_at, stack_of_operation}
+use Rattle.cf_effect.specs.World.{StackState, is_going, stack_at, stack_of_operation}
 use Rattle.cf_effect.specs.declared.call.Call.{Call}
 use Rattle.cf_effect.specs.declared.held.Pending.{Pending}
 use Rattle.cf_stacks.proofs.Worlds.{found_stands}
 use Rattle.cf_plan.proofs.CreatedRight.{in_filter}
 use Rattle.cf_plan.proofs.CreatedStays.{found_one}
 use Rattle.cf_plan.proofs.Frame.{found_passes}
-use Rattle.cf_plan.proofs.Listed.{bytes_same, in_map, same_bytes}
+use Rattle.cf_plan.proofs.Listed.{in_map, same_bytes}
 use Rattle.cf_plan.proofs.RunLists.{in_back, in_front, in_kept}
 use Rattle.cf_plan.specs.Life.{Life, world_of}
 use Rattle.cf_core.proofs.FewCalls.{one_is_open, tokens_are_few}
 use Rattle.cf_core.specs.FewCalls.{is_call_at, is_open_at}
 use Rattle.cf_core.specs.Theorem.{HoldsAlways}
 use Rattle.cf_core.specs.Tokens.{number_of}
-use Rattle.cf_lane.specs.declared.told.Told.{Told}
+use Rattle.cf_lane.specs.Calling.{Granted}
 use Rattle.cf_book.specs.Record.{world_left}
-use Rattle.cf_book.specs.State.{BookNow}
-use Rattle.cf_workers.proofs.Grouped.{all_each, filtered_less, grouped, nine_each, so_many}
+use Rattle.cf_book.specs.State.{BookLane, BookNow}
+use Rattle.cf_workers.proofs.Grouped.{all_each, filtered_less, grouped, nine_each}
 use Rattle.cf_workers.proofs.SoFar.{AreLow, HasCalled, called_in, open_over, three_phases, under}
 use Rattle.cf_workers.proofs.Tries.{IsAt, at_most, thrice}
-use Rattle.cf_workers.specs.Counting.{AreFewFor}
-use Rattle.cf_workers.specs.Driving.{CallMade, Course, Round, calls_of, paths_called, tries_of, tries_with}
+use Rattle.cf_workers.specs.Counting.{AreFew, is_of_path}
+use Rattle.cf_workers.specs.Driving.{CallAt, CallMade, Course, Round, call_at, calls_of, tries_of, tries_with}
+
+-- a call by its path and its token
+abbrev pub key : CallAt → List ℕ × ℕ
+key c = (c.path, c.told.token)
+
+filtered_keys : (p : List ℕ × ℕ → Bool) (cs : List CallAt) → length (filter p (map key cs)) ≡ length (filter (λ (c : CallAt). p (key c)) cs)
+filtered_keys p [] = refl
+filtered_keys p (c ∷ cs) = by (p (key c)) (filtered_keys p cs) where
+  by : (b : Bool) → length (filter p (map key cs)) ≡ length (filter (λ (d : CallAt). p (key d)) cs)
+      → length (cond b (key c ∷ filter p (map key cs)) (filter p (map key cs))) ≡ length (cond b (c ∷ filter (λ (d : CallAt). p (key d)) cs) (filter (λ (d : CallAt). p (key d)) cs))
+  by true more = omega (arith, more)
+  by false more = more
 
 abbrev is_at : List ℕ → List ℕ × ℕ → Bool
 is_at path c = bytes_eq path c.0
@@ -83,11 +95,28 @@ module _ (number : ℕ) (ps : List Pending) (last : ℕ) (s : StackState) (calls
       let few = six path in
       omega (arith, all, each, few)
 
-  pub few_for : (paths : List (List ℕ)) → ((path : List ℕ) → In path (map (λ (c : List ℕ × ℕ). c.0) calls) → In path paths) → length calls ≤ 54 * length paths
-  few_for paths has =
-      let all = grouped bytes_eq same_bytes (λ (c : List ℕ × ℕ). c.0) 54 paths calls (λ c i. has c.0 (in_map (λ (d : List ℕ × ℕ). d.0) c calls i)) at_path in
-      let each = all_each paths in
-      omega (arith, all, each)
+  -- so the calls of these paths and tokens are few
+  module _ (cs : List CallAt) (same : map key cs ≡ calls) where
+    six_of : (path : List ℕ) (c : CallAt) → In c cs → c.path ≡ path → In c.told.token (tokens_at path)
+    six_of path c i at =
+        among path (key c) (in_kept (is_at path) calls (key c) (subst (In (key c)) same (in_map key c cs i)) (ap (bytes_eq path) at ∙ same_bytes path))
+
+    as_many : (p : List ℕ × ℕ → Bool) → length (filter p calls) ≡ length (filter (λ (c : CallAt). p (key c)) cs)
+    as_many p = ap (λ ks. length (filter p ks)) (sym same) ∙ filtered_keys p cs
+
+    few_at : (path : List ℕ) → length (filter (is_of_path path) cs) ≤ 54
+    few_at path = subst (λ n. n ≤ 54) (as_many (is_at path)) (at_path path)
+
+    pub are_few : AreFew cs
+    are_few = record {
+      six = λ path. (tokens_at path, six path, six_of path);
+      nine = λ token. subst (λ n. n ≤ 9) (as_many (under token)) (nine token);
+      few = few_at;
+      in_all = λ paths has.
+          let all = grouped bytes_eq same_bytes (λ (c : CallAt). c.path) 54 paths cs has few_at in
+          let each = all_each paths in
+          omega (arith, all, each);
+    }
 
 -- the tokens of a life's open calls are those of earlier Intents
 module _ (schemas : List Schema) (life : Life) (holds : HoldsAlways schemas life) (number : ℕ) (es : List Entry) (known : life.entries ≡ es) where
@@ -125,41 +154,37 @@ operation_is number es name s at =
 module _ (schemas : List Schema) (begun life : Life) (held : HoldsAlways schemas begun) (holds : HoldsAlways schemas life) (number : ℕ) (first es : List Entry)
     (known : begun.entries ≡ first) (now : life.entries ≡ es) where
   pub few_between : (name : List ℕ) (s : StackState) → IsAt number es name s → (calls : List (List ℕ × ℕ)) (tries : ℕ → ℕ)
-      → HasCalled number (open_over number first) (world_left es).token s calls tries → ((token : ℕ) → tries token ≤ 3) → (paths : List (List ℕ))
-      → ((path : List ℕ) → In path (map (λ (c : List ℕ × ℕ). c.0) calls) → In path paths) → length calls ≤ 54 * length paths
-  few_between name s at calls tries h most_tries =
-      few_for number (open_over number first) (world_left es).token s calls tries h most_tries (operation_is number es name s at)
-      (five_at schemas life holds number es now name s at) (one_at schemas begun held number first known)
+      → HasCalled number (open_over number first) (world_left es).token s calls tries → ((token : ℕ) → tries token ≤ 3) → (cs : List CallAt) → map key cs ≡ calls → AreFew cs
+  few_between name s at calls tries h most_tries cs same =
+      are_few number (open_over number first) (world_left es).token s calls tries h most_tries (operation_is number es name s at)
+      (five_at schemas life holds number es now name s at) (one_at schemas begun held number first known) cs same
 
--- the calls of a course, told in both ways
-map_last : {A B : Type 0} (f : A → B) (xs : List A) (x : A) → map f (xs ++ x ∷ []) ≡ map f xs ++ f x ∷ []
-map_last f [] x = refl
-map_last f (y ∷ xs) x = ap (λ zs. f y ∷ zs) (map_last f xs x)
+-- none are few
+pub none_few : AreFew []
+none_few = record {
+  six = λ path. ([], omega arith, λ c i. elim i [ ]);
+  nine = λ token. omega arith;
+  few = λ path. omega arith;
+  in_all = λ paths has. omega arith;
+}
 
-one_longer : {A B : Type 0} (xs : List A) (ys : List B) (x : A) (y : B) → length xs ≡ length ys → length (xs ++ x ∷ []) ≡ length (ys ++ y ∷ [])
-one_longer xs ys x y same = let a = length-append xs (x ∷ []) in let b = length-append ys (y ∷ []) in omega (arith, same, a, b)
+-- one call more
+keys_so : {number : ℕ} {es : List Entry} {lanes : List BookLane} (made : CallMade number es lanes) (cs : List CallAt) (called : List (List ℕ × ℕ)) → map key cs ≡ called
+    → map key (cs ++ call_at made ∷ []) ≡ called ++ (made.path, made.token) ∷ []
+keys_so made cs called same =
+    map-append key cs (call_at made ∷ []) ∙ ap (λ ks. ks ++ key (call_at made) ∷ []) same
+    ∙ ap (λ token. called ++ (made.path, token) ∷ []) (ap (λ (c : Granted). c.token) made.called.granted_is)
 
 module _ {D : Type 0} {g : Ghosts D} {number : ℕ} {first : BookNow D} where
-  pub paths_are : {last : BookNow D} (course : Course g number first last) → map (λ (c : List ℕ × ℕ). c.0) (called_in course) ≡ paths_called course
-  paths_are Course.begins = refl
-  paths_are (Course.goes course (Round.moves n e chosen writes other fits wrote lanes) grows rest) = paths_are course
-  paths_are (Course.goes course (Round.calls made r intends outcome wrote lanes) grows rest) =
-      map_last (λ (c : List ℕ × ℕ). c.0) (called_in course) (made.path, made.token) ∙ ap (λ ps. ps ++ made.path ∷ []) (paths_are course)
+  -- the calls of a course have its paths and tokens, with the one that comes next too
+  pub keys_are : {last : BookNow D} (course : Course g number first last) → map key (calls_of course) ≡ called_in course
+  keys_are Course.begins = refl
+  keys_are (Course.goes course (Round.moves n e chosen writes other fits wrote lanes) grows rest) = keys_are course
+  keys_are (Course.goes course (Round.calls made r intends outcome wrote lanes) grows rest) = keys_so made (calls_of course) (called_in course) (keys_are course)
 
-  pub as_many : {last : BookNow D} (course : Course g number first last) → length (called_in course) ≡ length (calls_of course)
-  as_many Course.begins = refl
-  as_many (Course.goes course (Round.moves n e chosen writes other fits wrote lanes) grows rest) = as_many course
-  as_many (Course.goes course (Round.calls made r intends outcome wrote lanes) grows rest) =
-      one_longer (called_in course) (calls_of course) (made.path, made.token) (made.lane.name, made.told) (as_many course)
-
-  -- with one more
-  pub as_many_more : {last : BookNow D} (course : Course g number first last) (made : CallMade number last.entries last.lanes)
-      → length (called_in course ++ (made.path, made.token) ∷ []) ≡ length (calls_of course ++ (made.lane.name, made.told) ∷ [])
-  as_many_more course made = one_longer (called_in course) (calls_of course) (made.path, made.token) (made.lane.name, made.told) (as_many course)
-
-  pub paths_more : {last : BookNow D} (course : Course g number first last) (made : CallMade number last.entries last.lanes)
-      → map (λ (c : List ℕ × ℕ). c.0) (called_in course ++ (made.path, made.token) ∷ []) ≡ paths_called course ++ made.path ∷ []
-  paths_more course made = map_last (λ (c : List ℕ × ℕ). c.0) (called_in course) (made.path, made.token) ∙ ap (λ ps. ps ++ made.path ∷ []) (paths_are course)
+  pub keys_more : {last : BookNow D} (course : Course g number first last) (made : CallMade number last.entries last.lanes)
+      → map key (calls_of course ++ call_at made ∷ []) ≡ called_in course ++ (made.path, made.token) ∷ []
+  keys_more course made = keys_so made (calls_of course) (called_in course) (keys_are course)
 
   -- none is made more than three times in a phase, the one that comes next neither
   pub thrice_more : {last : BookNow D} (course : Course g number first last) (made : CallMade number last.entries last.lanes) (token : ℕ)
@@ -172,10 +197,3 @@ module _ {D : Type 0} {g : Ghosts D} {number : ℕ} {first : BookNow D} where
         subst (λ t. cond made.repeated (tries_of t course + 1) 1 ≤ 3) its
         (subst (λ b. cond b (cond made.repeated (tries_of made.token course + 1) 1) (tries_of made.token course) ≤ 3) (eq-eqb made.token made.token refl)
         (at_most g number course made))
-
--- these calls are few for their paths, as the others are
-pub as_few : (calls : List (List ℕ × Told)) (called : List (List ℕ)) (all : List (List ℕ × ℕ)) → length all ≡ length calls → map (λ (c : List ℕ × ℕ). c.0) all ≡ called
-    → ((paths : List (List ℕ)) → ((path : List ℕ) → In path (map (λ (c : List ℕ × ℕ). c.0) all) → In path paths) → length all ≤ 54 * length paths)
-    → AreFewFor calls called
-as_few calls called all same_many same_paths few paths has =
-    let most = few paths (λ path i. has path (subst (In path) same_paths i)) in omega (arith, same_many, most)

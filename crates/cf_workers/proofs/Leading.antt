@@ -1,17 +1,14 @@
 -- One stretch of a run after another, as events of a life; and the life that a run leaves when the book is closed.
-use Rattle.std.proofs.Common.{◌≡◌, ◌⊎◌, inl, inr, ℕ, Bool, true, false, List, [], ◌∷◌, ◌++◌, Option, Some, None, map, refl, sym, ◌∙◌, ap, subst}
-use Rattle.cf_tree.specs.Lists.{In, is_among}
-use Rattle.cf_tree.specs.Lists.In.{here, there}
-use Rattle.cf_entry.specs.declared.entry.Entry.{Entry}
+use Rattle.std.proofs.Common.{◌≡◌, inl, ℕ, List, [], ◌∷◌, ◌++◌, Some, map, refl, sym, ◌∙◌, ap, subst}
+use Rattle.cf_tree.specs.Lists.{In}
 use Rattle.cf_schema.specs.declared.described.Schema.{Schema}
 use Rattle.cf_schema.specs.Kinds.{found}
 use Rattle.cf_plan.proofs.Causing.{map_in}
 use Rattle.cf_plan.proofs.Listed.{in_map}
-use Rattle.cf_plan.specs.Lanes.{Lane, lane_at}
-use Rattle.cf_plan.specs.Life.{Event, IsLife, Lease, Life, life_after, world_of}
-use Rattle.cf_core.specs.Theorem.{HoldsAlways}
+use Rattle.cf_plan.specs.Lanes.{Lane}
+use Rattle.cf_plan.specs.Life.{Event, IsLife, Life, life_after}
 use Rattle.cf_core.proofs.Always.{events_hold}
-use Rattle.cf_book.specs.Lives.{AreEntriesOf, DescribeLanes, StandsFor}
+use Rattle.cf_book.specs.Lives.{DescribeLanes}
 use Rattle.cf_book.specs.State.{BookLane, BookNow}
 use Rattle.cf_workers.specs.Driving.{AreSameLanes, name_and_schema, names_of}
 use Rattle.cf_workers.specs.Leading.{KeepOthers, LeadsOn, LeadsWith}

@@ -1,8 +1,7 @@
 -- Which events of a life a stretch of a run is, for each record that the disk may have after it.
-use Rattle.std.proofs.Common.{◌≡◌, ◌⊎◌, inl, inr, ℕ, ◌==◌, Bool, true, false, ◌||◌, cond, List, [], ◌∷◌, ◌++◌, Option, Some, None, Result, Ok, Err, map, find, option_map, refl, sym, ◌∙◌, ap, subst, true≢false, arith}
+use Rattle.std.proofs.Common.{◌≡◌, ◌⊎◌, inl, inr, ℕ, ◌==◌, Bool, true, false, ◌||◌, cond, List, [], ◌∷◌, ◌++◌, Option, Some, None, Ok, Err, map, find, refl, sym, ◌∙◌, ap, subst, true≢false, arith}
 use Rattle.std.specs.Str.{bytes_eq}
 use Rattle.cf_tree.specs.Lists.{In, is_among}
-use Rattle.cf_tree.specs.Lists.In.{here, there}
 use Rattle.cf_handler.specs.Fence.{FencedLane, Left, late_by, left_by}
 use Rattle.cf_handler.specs.Tells.{LateEffect}
 use Rattle.cf_entry.specs.declared.entry.Entry.{Entry}
@@ -11,13 +10,12 @@ use Rattle.cf_entry.specs.declared.entry.Reply.{Reply}
 use Rattle.cf_schema.specs.declared.described.Schema.{Schema}
 use Rattle.cf_lane.specs.Lanes.{LaneNow}
 use Rattle.cf_lane.specs.declared.told.Told.{Told}
-use Rattle.cf_plan.specs.Lanes.{Lane, lane_at}
-use Rattle.cf_plan.specs.Life.{Act, Answered, Begin, BrokenWith, BrokenWithout, CallEnd, End, Event, Grant, IsLife, Lease, Life, Park, Repeat, Settle, Whole, appended, changed, first_again, granted, lane_acted, lease_at, life_after, repeated, world_of}
+use Rattle.cf_plan.specs.Lanes.{Lane}
+use Rattle.cf_plan.specs.Life.{Act, Answered, Begin, BrokenWith, BrokenWithout, End, Event, Grant, IsLife, Lease, Life, Park, Repeat, Settle, Whole, appended, changed, first_again, granted, lane_acted, lease_at, life_after, repeated, world_of}
 use Rattle.cf_plan.proofs.Listed.{bytes_same, in_cons, in_none, same_bytes}
 use Rattle.cf_plan.proofs.CreatedStays.{found_one}
-use Rattle.cf_core.specs.Theorem.{HoldsAlways}
-use Rattle.cf_book.specs.Events.{IsCallMade, MayEnd, ParksCall, SettlesCall, late_on, outcome_by}
-use Rattle.cf_book.specs.Lives.{AreEntriesOf, AreLeasesOf, DescribeLanes, LeadsTo, StandsFor, lease_of}
+use Rattle.cf_book.specs.Events.{IsCallMade, ParksCall, SettlesCall, late_on, outcome_by}
+use Rattle.cf_book.specs.Lives.{AreEntriesOf, AreLeasesOf, LeadsTo, StandsFor, lease_of}
 use Rattle.cf_next.specs.declared.step.Next.{Next}
 use Rattle.cf_next.specs.declared.step.Next.TheVariants as next
 use Rattle.cf_prepare.specs.declared.wish.Order.TheVariants as order
@@ -29,7 +27,7 @@ use Rattle.cf_book.specs.declared.stop.StopFault.{StopFault}
 use Rattle.cf_book.specs.declared.stop.StopFault.TheVariants as stop
 use Rattle.cf_book.proofs.Moves.{other_lane}
 use Rattle.cf_workers.specs.Driving.{names_of}
-use Rattle.cf_workers.specs.Leading.{KeepOthers, LeadsOn, LeadsWith}
+use Rattle.cf_workers.specs.Leading.{KeepOthers, LeadsWith}
 
 -- the life after some events
 abbrev pub after_all : Life → List Event → Life

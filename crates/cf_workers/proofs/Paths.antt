@@ -1,6 +1,5 @@
 -- Each call that comes next is at a path of its stack.
-use Rattle.std.proofs.Common.{◌≡◌, inl, inr, ℕ, Bool, true, false, List, map, refl, sym, subst}
-use Rattle.cf_tree.specs.Lists.{In}
+use Rattle.std.proofs.Common.{inl, inr, ℕ, Bool, true, false, List, map, refl, sym, subst}
 use Rattle.cf_tree.specs.declared.request.Request.{Request}
 use Rattle.cf_tree.specs.declared.request.Request.TheVariants as request
 use Rattle.cf_schema.specs.declared.described.Schema.{Schema}

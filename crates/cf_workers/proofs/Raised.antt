@@ -3,11 +3,9 @@ use Rattle.std.proofs.Common.{◌≡◌, ℕ, suc, zero, Bool, true, false, List
 use Rattle.cf_tree.specs.Lists.{In, is_among}
 use Rattle.cf_tree.specs.Lists.In.{here, there}
 use Rattle.cf_handler.specs.Fence.{raised_to}
-use Rattle.cf_handler.specs.Tells.{LateEffect}
 use Rattle.cf_handler.specs.declared.fence.FenceAnswer.{FenceAnswer}
 use Rattle.cf_handler.specs.declared.fence.FenceAnswer.TheVariants as fence
 use Rattle.cf_lane.specs.Lanes.{LaneNow}
-use Rattle.cf_plan.specs.Lanes.{Lane}
 use Rattle.cf_plan.specs.Life.{Event, Life, Raise, life_after, world_of}
 use Rattle.cf_book.specs.Entering.{AreRaisings, AreRaisingsTo, IsRaising}
 use Rattle.cf_book.specs.Events.{late_on}

@@ -1,6 +1,5 @@
 -- What one round of a run comes to, by what `grant` and `settle` answer.
-use Rattle.std.proofs.Common.{◌≡◌, ◌⊎◌, inl, inr, ℕ, ◌<◌, ◌≤◌, ◌+◌, ◌^◌, true, List, [], ◌∷◌, ◌++◌, length, Option, Some, None, Result, Ok, Err, map, refl, sym, ◌∙◌, ap, subst, arith, cond, false, Bool, length-append}
-use Rattle.std.specs.Bool.{IsTrue}
+use Rattle.std.proofs.Common.{◌≡◌, inl, inr, ℕ, ◌<◌, ◌^◌, true, List, [], ◌∷◌, ◌++◌, length, Option, Some, None, Result, Ok, Err, map, refl, sym, ◌∙◌, ap, subst, cond, false, Bool}
 use Rattle.std.specs.Str.{bytes_eq}
 use Rattle.cf_tree.specs.Named.{all_differ}
 use Rattle.cf_disk.specs.declared.disk.Disk.{Ghosts as DiskGhosts}

@@ -1,9 +1,8 @@
 -- A run, round after round.
-use Rattle.std.proofs.Common.{◌≡◌, ◌⊎◌, inl, inr, ℕ, ◌≤◌, ◌<◌, ◌-◌, ◌^◌, List, [], ◌∷◌, ◌++◌, length, length-append, Option, Some, None, refl, sym, ◌∙◌, ap, subst, arith}
+use Rattle.std.proofs.Common.{◌≡◌, inl, inr, ℕ, ◌≤◌, ◌<◌, ◌-◌, ◌^◌, List, [], ◌∷◌, ◌++◌, length, length-append, Option, Some, None, refl, sym, ◌∙◌, ap, subst, arith}
 use Rattle.std.specs.Bool.{IsTrue}
 use Rattle.cf_disk.specs.declared.disk.Disk.{Ghosts}
 use Rattle.cf_entry.specs.declared.entry.Entry.{Entry}
-use Rattle.cf_journal.specs.Record.{record_of}
 use Rattle.cf_journal.proofs.Moments.{started}
 use Rattle.cf_schema.specs.declared.described.Schema.{Schema}
 use Rattle.cf_plan.specs.Life.{Life}
@@ -13,24 +12,23 @@ use Rattle.cf_core.proofs.Always.{events_hold}
 use Rattle.cf_book.specs.Ended.{end_status, ended_in}
 use Rattle.cf_book.specs.Events.{outcome_by}
 use Rattle.cf_book.specs.Granting.{HasBegun, IsStill}
-use Rattle.cf_book.specs.Lives.{AreEntriesOf, DescribeLanes, StandsFor}
-use Rattle.cf_book.specs.Record.{HasKnown, KeepsDisk, KnowsDisk, with_doubt}
+use Rattle.cf_book.specs.Lives.{DescribeLanes, StandsFor}
+use Rattle.cf_book.specs.Record.{HasKnown, KnowsDisk, with_doubt}
 use Rattle.cf_book.specs.Steady.{IsSteady}
-use Rattle.cf_book.specs.State.{BookLane, BookNow, NoneOut}
-use Rattle.cf_book.specs.declared.stop.StopFault.{StopFault}
+use Rattle.cf_book.specs.State.{BookNow, NoneOut}
 use Rattle.cf_workers.specs.declared.drive.Drove.{Drove}
 use Rattle.cf_workers.specs.declared.drive.Drove.TheVariants.{Over, Stopped}
-use Rattle.cf_workers.specs.Growing.{Extends, IsBetween}
-use Rattle.cf_workers.specs.Counting.{AreFewIn, calls_in, paths_in}
-use Rattle.cf_workers.specs.Driving.{AreSameLanes, CallMade, Course, DrivesTo, Grows, IsAtRest, Round, RoundTells, Stops, calls_of, intended, names_of, paths_called, step_of, tries_of, tries_with}
-use Rattle.cf_workers.specs.Leading.{Drives, IsStretch, LeadsOn, LeadsWith}
+use Rattle.cf_workers.specs.Growing.{IsBetween}
+use Rattle.cf_workers.specs.Counting.{AreFewIn, calls_in}
+use Rattle.cf_workers.specs.Driving.{CallMade, Course, DrivesTo, Grows, IsAtRest, Round, RoundTells, call_at, calls_of, intended, names_of, step_of, tries_of, tries_with}
+use Rattle.cf_workers.specs.Leading.{Drives, IsStretch, LeadsWith}
 use Rattle.cf_workers.proofs.Ahead.{never_ahead}
 use Rattle.cf_workers.proofs.Courses.{logs_told, outcomes_told}
-use Rattle.cf_workers.proofs.FewCalls.{are_low, as_few, as_many, as_many_more, few_between, paths_are, paths_more, thrice_more}
+use Rattle.cf_workers.proofs.FewCalls.{are_low, few_between, keys_more, none_few, thrice_more}
 use Rattle.cf_workers.proofs.SoFar.{AreLow, IsSoFar, answered_at, answered_so, begins_so, called_in, lent_so, made_so, round_so}
 use Rattle.cf_workers.proofs.Paths.{of_stack}
 use Rattle.cf_workers.proofs.Tries.{at_most, thrice}
-use Rattle.cf_workers.proofs.Crashes.{extends_doubt, extends_itself, extends_on, grows_on, is_at}
+use Rattle.cf_workers.proofs.Crashes.{extends_doubt, extends_itself, extends_on, grows_on}
 use Rattle.cf_workers.proofs.Leading.{leads_on}
 use Rattle.cf_workers.proofs.Lives.{one_record, stay}
 
@@ -92,7 +90,7 @@ pub record IsRun {D : Type 0} (g : Ghosts D) (number : ℕ) (first b : BookNow D
   pub ends : ended_in b.entries ≡ ended_in first.entries
   pub certain : first.doubt ≡ None
   pub so_far : AreLow number first.entries → IsSoFar g number first course
-  pub few : AreFewIn first (calls_of course) (paths_called course)
+  pub few : AreFewIn first (calls_of course)
 
 -- before the first round
 pub starts : {D : Type 0} (g : Ghosts D) (only_now : (d : D) (c : List ℕ) → IsTrue g.tells → g.left_since d (g.moment d) c → g.may_leave d c) (number : ℕ) (b : BookNow D)
@@ -105,7 +103,7 @@ starts g only_now number b rest begun = record {
   ends = refl;
   certain = rest.certain;
   so_far = begins_so g number b;
-  few = λ schemas life described stands holds paths has. omega arith;
+  few = λ schemas life described stands holds. none_few;
 }
 
 module _ {D : Type 0} (g : Ghosts D) (number : ℕ) (first b c : BookNow D) (run : IsRun g number first b) (more : IsStretch g b c) where
@@ -126,31 +124,27 @@ module _ {D : Type 0} (g : Ghosts D) (number : ℕ) (first b c : BookNow D) (run
     held : HoldsAlways schemas led.after
     held = (events_hold schemas life led.after led.events holds led.happen).0
 
-  -- the calls are few for their paths, after a round too
-  few_on : (round : Round g number b c) (grows : Grows g b c) (rest : IsAtRest g c)
-      → AreFewIn first (calls_of (Course.goes run.course round grows rest)) (paths_called (Course.goes run.course round grows rest))
+  -- the calls are few, after a round too
+  few_on : (round : Round g number b c) (grows : Grows g b c) (rest : IsAtRest g c) → AreFewIn first (calls_of (Course.goes run.course round grows rest))
   few_on (Round.moves n e chosen writes other fits wrote lanes) grows rest = run.few
   few_on (Round.calls made r intends outcome wrote lanes) grows rest = λ schemas life described stands holds.
-      let course : Course g number first c = Course.goes run.course (Round.calls made r intends outcome wrote lanes) grows rest in
       let so_now = answered_so g number first run.course (so schemas life described stands holds) made r in
       let (t, at) = answered_at g number first run.course (so schemas life described stands holds) made r in
       let l = led schemas life described stands holds in
-      as_few (calls_of course) (paths_called course) (called_in course) (as_many course) (paths_are course)
-      (few_between schemas life l.after holds (held schemas life described stands holds) number first.entries (intended made ++ outcome_by made.told r ∷ [])
-      (known schemas life described stands holds) (l.record_is ∙ wrote) made.chosen.0 t at (called_in course) (λ token. tries_with made token (tries_of token run.course))
-      (so_now made.chosen.0 t at) (thrice_more run.course made))
+      few_between schemas life l.after holds (held schemas life described stands holds) number first.entries (intended made ++ outcome_by made.told r ∷ [])
+      (known schemas life described stands holds) (l.record_is ∙ wrote) made.chosen.0 t at (called_in run.course ++ (made.path, made.token) ∷ [])
+      (λ token. tries_with made token (tries_of token run.course)) (so_now made.chosen.0 t at) (thrice_more run.course made)
+      (calls_of run.course ++ call_at made ∷ []) (keys_more run.course made)
 
-  few_with : (made : CallMade number b.entries b.lanes) → c.entries ≡ intended made
-      → AreFewIn first (calls_of run.course ++ (made.lane.name, made.told) ∷ []) (paths_called run.course ++ made.path ∷ [])
+  few_with : (made : CallMade number b.entries b.lanes) → c.entries ≡ intended made → AreFewIn first (calls_of run.course ++ call_at made ∷ [])
   few_with made same = λ schemas life described stands holds.
       let so_now = made_so g number first run.course (so schemas life described stands holds) made in
       let lent = lent_so g number first run.course (so schemas life described stands holds) made in
       let l = led schemas life described stands holds in
-      as_few (calls_of run.course ++ (made.lane.name, made.told) ∷ []) (paths_called run.course ++ made.path ∷ [])
-      (called_in run.course ++ (made.path, made.token) ∷ []) (as_many_more run.course made) (paths_more run.course made)
-      (few_between schemas life l.after holds (held schemas life described stands holds) number first.entries (intended made)
+      few_between schemas life l.after holds (held schemas life described stands holds) number first.entries (intended made)
       (known schemas life described stands holds) (l.record_is ∙ same) made.chosen.0 lent.stack lent.stands (called_in run.course ++ (made.path, made.token) ∷ [])
-      (λ token. tries_with made token (tries_of token run.course)) (so_now made.chosen.0 lent.stack lent.stands) (thrice_more run.course made))
+      (λ token. tries_with made token (tries_of token run.course)) (so_now made.chosen.0 lent.stack lent.stands) (thrice_more run.course made)
+      (calls_of run.course ++ call_at made ∷ []) (keys_more run.course made)
 
   -- one round more
   pub goes_on : RoundTells g number b c None → IsRun g number first c
@@ -166,9 +160,9 @@ module _ {D : Type 0} (g : Ghosts D) (number : ℕ) (first b c : BookNow D) (run
   }
 
   -- the same course, where the book is still
-  still_so : IsStill b c → IsAtRest g c → (course : Course g number first c) × AreFewIn first (calls_of course) (paths_called course)
+  still_so : IsStill b c → IsAtRest g c → (course : Course g number first c) × AreFewIn first (calls_of course)
   still_so s rest =
-      subst (λ z. (course : Course g number first z) × AreFewIn first (calls_of course) (paths_called course))
+      subst (λ z. (course : Course g number first z) × AreFewIn first (calls_of course))
       (sym (same_book b c s run.rest.running rest.running)) (run.course, run.few)
 
   -- it comes to its end, or stops
@@ -179,7 +173,7 @@ module _ {D : Type 0} (g : Ghosts D) (number : ℕ) (first b c : BookNow D) (run
   comes_to (Stopped fault) stops = (b, run.course, stops, run.stretch.disk, more.grows)
 
   few_in : (drove : Drove) (tells : RoundTells g number b c (Some drove))
-      → AreFewIn first (calls_in g number first c drove (comes_to drove tells)) (paths_in g number first c drove (comes_to drove tells))
+      → AreFewIn first (calls_in g number first c drove (comes_to drove tells))
   unfolding comes_to
   few_in (Over status) (rest, ended, inl (round, last)) = few_on round more.grows rest
   few_in (Over status) (rest, ended, inr (s, stood)) = (still_so s rest).1

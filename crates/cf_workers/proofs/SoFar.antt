@@ -1,6 +1,6 @@
 -- What a run has called so far: each call has a row of the operation, or was open as the run began; and none was made too often.
-use Rattle.std.proofs.Common.{◌≡◌, ◌⊎◌, inl, inr, ℕ, ◌+◌, ◌*◌, ◌≤◌, ◌<◌, ◌==◌, ◌&&◌, Bool, true, false, cond, List, [], ◌∷◌, ◌++◌, Option, Some, None, length, length-append, map, refl, sym, ◌∙◌, ap, subst, true≢false, arith}
-use Rattle.std.specs.Prelude.{filter, fold}
+use Rattle.std.proofs.Common.{◌≡◌, ◌⊎◌, inl, inr, ℕ, ◌+◌, ◌*◌, ◌≤◌, ◌<◌, ◌==◌, Bool, true, false, cond, List, [], ◌∷◌, ◌++◌, Option, Some, None, length, length-append, map, refl, sym, ◌∙◌, ap, subst, true≢false, arith}
+use Rattle.std.specs.Prelude.{filter}
 use Rattle.std.specs.Cmp.{first_so}
 use Rattle.std.specs.List.{list_any}
 use Rattle.std.specs.Option.{option_map_or}
@@ -24,7 +24,7 @@ use Rattle.cf_entry.specs.declared.turn.Phase.TheVariants as phase
 use Rattle.cf_entry.specs.declared.turn.Why.{Why}
 use Rattle.cf_effect.specs.Calls.{anew, is_restore, new_call}
 use Rattle.cf_effect.specs.Fold.{effect_at, is_intent}
-use Rattle.cf_effect.specs.Reply.{answered, intending, keeping, replied}
+use Rattle.cf_effect.specs.Reply.{intending, keeping, replied}
 use Rattle.cf_effect.specs.Status.{Forward, is_in_progress, stage_of, turned}
 use Rattle.cf_effect.specs.Words.{has_token, pending_of}
 use Rattle.cf_effect.specs.World.{StackState, World, empty_world, is_going, stack_of_operation}

@@ -1,8 +1,7 @@
 -- No call is made more than three times in a phase.
-use Rattle.std.proofs.Common.{◌≡◌, ◌⊎◌, inl, inr, ℕ, ◌+◌, ◌≤◌, ◌<◌, ◌==◌, ◌&&◌, nat_lt, Bool, true, false, cond, List, [], ◌∷◌, ◌++◌, Option, Some, None, map, find, option_map, refl, sym, ◌∙◌, ap, subst, true≢false, arith}
+use Rattle.std.proofs.Common.{◌≡◌, inl, inr, ℕ, ◌+◌, ◌≤◌, ◌<◌, ◌==◌, Bool, true, false, cond, List, [], ◌∷◌, ◌++◌, Option, Some, None, map, find, option_map, refl, sym, ◌∙◌, ap, subst, true≢false, arith}
 use Rattle.std.specs.Prelude.{filter, is_some, not}
 use Rattle.std.specs.Option.{option_map_or, option_or}
-use Rattle.std.specs.Cmp.{first_so, second_so}
 use Rattle.std.proofs.lemmas.Bool.{eq-eqb, eqb-true}
 use Rattle.std.proofs.lemmas.List.Folds.{find-append}
 use Rattle.cf_tree.specs.Lists.{In}
@@ -16,8 +15,8 @@ use Rattle.cf_entry.specs.declared.entry.Reply.{Reply}
 use Rattle.cf_entry.specs.declared.entry.Reply.TheVariants as reply
 use Rattle.cf_entry.specs.declared.turn.Why.{Why}
 use Rattle.cf_effect.specs.Calls.{answered_call, call_under, doubts_of, is_call, is_restore, new_call, one_more}
-use Rattle.cf_effect.specs.Fold.{is_intent, world_after}
-use Rattle.cf_effect.specs.Reply.{answered, closing, intending, keeping, replied, replying, still_open}
+use Rattle.cf_effect.specs.Fold.{is_intent}
+use Rattle.cf_effect.specs.Reply.{answered, intending, keeping, replied, replying, still_open}
 use Rattle.cf_effect.specs.Status.{Stage, Forward, Clean, Back, BackClean, Gone}
 use Rattle.cf_effect.specs.Words.{has_token, pending_of}
 use Rattle.cf_effect.specs.World.{StackState, World, empty_world, is_going, stack_of_operation}
@@ -30,8 +29,7 @@ use Rattle.cf_plan.proofs.CreatedRight.{in_filter}
 use Rattle.cf_plan.proofs.CreatedStays.{found_one}
 use Rattle.cf_plan.proofs.Going.{IsLike, like_intended, like_kept, like_replied}
 use Rattle.cf_plan.proofs.Listed.{in_last}
-use Rattle.cf_plan.proofs.RunLists.{is_found_in}
-use Rattle.cf_plan.specs.Follow.{MayRepeat, is_in_flight, may_repeat}
+use Rattle.cf_plan.specs.Follow.{MayRepeat}
 use Rattle.cf_plan.specs.Run.{IsOwn}
 use Rattle.cf_core.proofs.Operations.{at_it, left, like_goes}
 use Rattle.cf_core.proofs.Statuses.{intended_way, kept_way}
@@ -43,8 +41,8 @@ use Rattle.cf_book.specs.Events.{outcome_by}
 use Rattle.cf_book.specs.Granting.{ComesNext}
 use Rattle.cf_book.specs.Record.{with_doubt, world_left}
 use Rattle.cf_book.specs.State.{BookNow}
-use Rattle.cf_workers.specs.Driving.{CallMade, Course, IsIntended, IsOutcome, Round, ends_phase, intended, step_of, tries_of, tries_with}
-use Rattle.cf_core.proofs.Rowed.{EachHasRow, rows_left, rows_mapped, same_token}
+use Rattle.cf_workers.specs.Driving.{CallMade, Course, IsIntended, IsOutcome, Round, ends_phase, intended, tries_of, tries_with}
+use Rattle.cf_core.proofs.Rowed.{EachHasRow, rows_left}
 
 -- while a call is open it was in doubt as often at least as it was tried
 abbrev IsDoubted : ℕ → ℕ → StackState → Type 0

@@ -1,5 +1,5 @@
 -- Disk and lanes agree after a command that wrote no entry, or that could not open the journal whole.
-use Rattle.std.proofs.Common.{◌≡◌, ◌⊎◌, inl, inr, ℕ, suc, zero, Bool, true, false, cond, ◌||◌, List, [], ◌∷◌, ◌++◌, Option, Some, None, Result, Ok, Err, map, option_map, refl, sym, ◌∙◌, ap, subst, true≢false}
+use Rattle.std.proofs.Common.{◌≡◌, inl, inr, ℕ, suc, zero, Bool, true, false, cond, ◌||◌, List, [], ◌∷◌, ◌++◌, Option, Some, None, Result, Ok, map, option_map, refl, sym, ◌∙◌, ap, subst}
 use Rattle.std.specs.Bool.{IsTrue}
 use Rattle.std.specs.Str.{bytes_eq}
 use Rattle.cf_tree.specs.Lists.{In, is_among}
@@ -12,26 +12,26 @@ use Rattle.cf_handler.specs.declared.fence.FenceAnswer.TheVariants as fence
 use Rattle.cf_handler.specs.Fence.{FencedLane}
 use Rattle.cf_handler.specs.Tells.{LateEffect}
 use Rattle.cf_entry.specs.declared.entry.Entry.{Entry}
-use Rattle.cf_journal.specs.Record.{IsOldOrKept, KeepsRecord, record_of}
+use Rattle.cf_journal.specs.Record.{IsOldOrKept, record_of}
 use Rattle.cf_schema.specs.declared.described.Schema.{Schema}
 use Rattle.cf_lane.specs.Lanes.{LaneNow}
 use Rattle.cf_plan.specs.Lanes.{Lane, lane_at}
 use Rattle.cf_plan.specs.Life.{BrokenWith, BrokenWithout, Close, End, Event, IsLife, Life, Opened, Raise, Whole, life_after}
-use Rattle.cf_plan.proofs.Listed.{bytes_same, in_map, same_bytes}
+use Rattle.cf_plan.proofs.Listed.{bytes_same, same_bytes}
 use Rattle.cf_core.specs.Theorem.{HoldsAlways}
 use Rattle.cf_core.proofs.Always.{events_hold, holds_keeps_promises}
-use Rattle.cf_book.specs.Entering.{AreRaisings, AreRaisingsTo, IsBefore, IsBroken, IsRaising, IsUnraised, IsUntouched, MayEnter, MayOpenOn, epoch_over, names_of as named_so, opened_over}
+use Rattle.cf_book.specs.Entering.{AreRaisingsTo, IsBefore, IsBroken, IsRaising, IsUnraised, MayEnter, epoch_over, names_of as named_so, opened_over}
 use Rattle.cf_book.specs.Events.{late_on}
-use Rattle.cf_book.specs.Fences.{EachRaised, StopsRaising, handed_in}
-use Rattle.cf_book.specs.Lives.{AreLanesOf, told_lane}
-use Rattle.cf_book.specs.Record.{HasKnown, IsKnown}
-use Rattle.cf_book.specs.State.{BookLane, at_home}
-use Rattle.cf_workers.specs.Agreement.{Agree, AgreeOn, AreAmong, EachAgrees, KeepsAgreement, all_as_told, as_told, at_rest, state_told}
+use Rattle.cf_book.specs.Fences.{StopsRaising, handed_in}
+use Rattle.cf_book.specs.Lives.{AreLanesOf}
+use Rattle.cf_book.specs.Record.{HasKnown}
+use Rattle.cf_book.specs.State.{at_home}
+use Rattle.cf_workers.specs.Agreement.{Agree, AgreeOn, KeepsAgreement, all_as_told, as_told, at_rest, state_told}
 use Rattle.cf_workers.specs.Leading.{KeepOthers}
 use Rattle.cf_workers.proofs.Agreeing.{among_tail, behind, first_at, names, other_name, rest_differs}
 use Rattle.cf_workers.proofs.Commanded.{agrees_then, lanes_are, named_as, names_now, still_described}
 use Rattle.cf_workers.proofs.Rests.{rests}
-use Rattle.cf_workers.proofs.Lives.{after_all, after_both, ends, keep_both, kept_as}
+use Rattle.cf_workers.proofs.Lives.{after_all, after_both, ends}
 use Rattle.cf_workers.proofs.Entered.{among_itself}
 use Rattle.cf_workers.proofs.Raised.{raisings_to_keep}
 

@@ -1,12 +1,10 @@
 -- What a run writes, as a list of entries: each is the step that comes next where it stands, or an outcome, whose counts lie between those of
 -- a lane before the run and after it.
-use Rattle.std.proofs.Common.{◌≡◌, ◌⊎◌, inl, inr, ℕ, ◌≤◌, Bool, true, false, cond, List, [], ◌∷◌, ◌++◌, Option, Some, None, map, fold, refl, sym, ◌∙◌, ap, subst, append_assoc, append-nil, arith}
+use Rattle.std.proofs.Common.{◌≡◌, inl, inr, ℕ, ◌≤◌, Bool, true, false, cond, List, [], ◌∷◌, ◌++◌, Option, Some, None, map, fold, refl, sym, ◌∙◌, ap, subst, append_assoc, append-nil, arith}
 use Rattle.std.specs.Str.{bytes_eq}
 use Rattle.std.proofs.lemmas.Grind.{fold-append}
-use Rattle.cf_tree.specs.Counts.{HasRisen}
 use Rattle.cf_tree.specs.Lists.{In}
 use Rattle.cf_tree.specs.Lists.In.{here, there}
-use Rattle.cf_tree.specs.Named.{all_differ}
 use Rattle.cf_tree.specs.declared.request.Answer.{Answer}
 use Rattle.cf_tree.specs.declared.request.Answer.TheVariants as answer
 use Rattle.cf_disk.specs.declared.disk.Disk.{Ghosts}
@@ -19,9 +17,8 @@ use Rattle.cf_entry.specs.declared.entry.Reply.{Reply}
 use Rattle.cf_entry.specs.declared.entry.Reply.TheVariants as reply
 use Rattle.cf_effect.specs.World.{StackState, World, empty_world, is_going, stack_of_operation}
 use Rattle.cf_effect.specs.Fold.{fold_of, world_after}
-use Rattle.cf_lane.specs.Calling.{Granted, IsCalled, granted_in}
+use Rattle.cf_lane.specs.Calling.{Granted, granted_in}
 use Rattle.cf_lane.specs.Lanes.{LaneNow}
-use Rattle.cf_lane.specs.declared.told.Told.{Told}
 use Rattle.cf_effect.specs.declared.held.Pending.{Pending}
 use Rattle.cf_plan.proofs.Causing.{in_either}
 use Rattle.cf_plan.proofs.CreatedStays.{found_one}
@@ -36,12 +33,11 @@ use Rattle.cf_next.specs.declared.step.Next.TheVariants as next
 use Rattle.cf_book.specs.Events.{outcome_by, reply_for}
 use Rattle.cf_book.specs.Granting.{ComesNext}
 use Rattle.cf_book.specs.Record.{with_doubt, world_left}
-use Rattle.cf_book.specs.State.{BookLane, BookNow, at_home, come_home, home_of, with_lane}
-use Rattle.cf_workers.specs.Driving.{AreSameLanes, CallMade, Course, IsAtRest, IsIntended, IsOutcome, Round, intended, name_and_schema, names_of, step_of}
+use Rattle.cf_book.specs.State.{BookLane, BookNow, at_home, come_home, home_of}
+use Rattle.cf_workers.specs.Driving.{AreSameLanes, CallMade, Course, IsAtRest, IsIntended, Round, intended, name_and_schema, step_of}
 use Rattle.cf_workers.specs.Turning.{IsCountedAsSent, IsCountedOn, IsSentTo}
 use Rattle.cf_workers.proofs.Driven.{none_leased, same_home}
 use Rattle.cf_core.proofs.{Failing.some_same, Sent.intents_told}
-use Rattle.cf_workers.proofs.Leading.{same_names}
 
 -- the entry is the step that comes next in the operation, or an outcome in it while it goes on
 abbrev pub IsStep : List Schema → ℕ → World → Entry → Type 0

@@ -31,15 +31,15 @@ pub data IsNextEntry (schemas : List Schema) (es : List Entry) (e : Entry) : Typ
       (lane : List ℕ) (told : Told) (r : Reply) → IsOpenCall es lane (granted_in told) → reply_for told.answer ≡ Some r
       → e ≡ outcome_by told r → IsNextEntry schemas es e
 
--- The entry that was being written behind these: over the old ones the opening with the lanes that were handed in, and behind that opening
--- the one that comes next.
-abbrev pub IsBeingWritten : List LaneNow → List Entry → List Entry → Entry → Type 0
-IsBeingWritten lanes old es e =
+-- The entry could come next behind these: over the old ones the opening with the lanes that were handed in, and behind that opening one
+-- that comes next.
+abbrev pub MayBeNext : List LaneNow → List Entry → List Entry → Entry → Type 0
+MayBeNext lanes old es e =
     ((es ≡ old) × (e ≡ opened_over lanes old))
     ⊎ (Extends (old ++ opened_over lanes old ∷ []) es × IsNextEntry (schemas_in (map at_home lanes)) es e)
 
 -- A file on the way from one disk to a later one: its record begins with that of the first, and goes no further than that of the second, or
--- than that with the one entry that was being written behind it.
+-- than that with one entry that could come next behind it.
 pub record IsAlong {D H : Type 0} (g : DiskGhosts D) (h : HandlerGhosts H) (disk disk' : D) (handlers : List H) (file : List ℕ) : Type 0
   where
     pub old : List Entry
@@ -50,7 +50,7 @@ pub record IsAlong {D H : Type 0} (g : DiskGhosts D) (h : HandlerGhosts H) (disk
     pub stays : record_of (g.seen disk') ≡ Ok last
     pub no_shorter : Extends old now
     pub no_longer :
-        Extends now last ⊎ ((e : Entry) × (now ≡ last ++ e ∷ []) × IsBeingWritten (handed_in h handlers) old last e)
+        Extends now last ⊎ ((e : Entry) × (now ≡ last ++ e ∷ []) × MayBeNext (handed_in h handlers) old last e)
 
 -- what a crash might have left before, or a file along the way
 abbrev pub IsOldOrAlong : {D H : Type 0} → DiskGhosts D → HandlerGhosts H → D → D → List H → List ℕ → Type 0

@@ -181,18 +181,20 @@ RoundTells g number old new (Some (Over status)) =
     × ((Round g number old new × EndsWith new.entries number status) ⊎ (IsStill old new × HasEnd old.entries number status))
 RoundTells g number old new (Some (Stopped fault)) = Stops g number old new fault
 
--- The calls of a course in their order, each with the lane that it was made on.
-abbrev pub calls_of : {D : Type 0} {g : Ghosts D} {number : ℕ} {first last : BookNow D} → Course g number first last → List (List ℕ × Told)
+-- A call of a run: the path that it is of, the lane that it was made on, and what was told of it.
+pub record CallAt : Type 0 where
+  pub path : List ℕ
+  pub lane : List ℕ
+  pub told : Told
+
+abbrev pub call_at : {number : ℕ} {es : List Entry} {lanes : List BookLane} → CallMade number es lanes → CallAt
+call_at c = record { path = c.path; lane = c.lane.name; told = c.told }
+
+-- The calls of a course in their order.
+abbrev pub calls_of : {D : Type 0} {g : Ghosts D} {number : ℕ} {first last : BookNow D} → Course g number first last → List CallAt
 calls_of Course.begins = []
 calls_of (Course.goes course (Round.moves n e next writes other fits wrote lanes) grows rest) = calls_of course
-calls_of (Course.goes course (Round.calls made r intends outcome wrote lanes) grows rest) =
-    calls_of course ++ (made.lane.name, made.told) ∷ []
-
--- the path of each of them
-abbrev pub paths_called : {D : Type 0} {g : Ghosts D} {number : ℕ} {first last : BookNow D} → Course g number first last → List (List ℕ)
-paths_called Course.begins = []
-paths_called (Course.goes course (Round.moves n e next writes other fits wrote lanes) grows rest) = paths_called course
-paths_called (Course.goes course (Round.calls made r intends outcome wrote lanes) grows rest) = paths_called course ++ made.path ∷ []
+calls_of (Course.goes course (Round.calls made r intends outcome wrote lanes) grows rest) = calls_of course ++ call_at made ∷ []
 
 -- the entry begins a phase, or is an operation's end
 abbrev pub ends_phase : Entry → Bool
@@ -212,16 +214,16 @@ tries_of token (Course.goes course (Round.calls made r intends outcome wrote lan
     tries_with made token (tries_of token course)
 
 -- the outcome that an answer has; the outcomes among entries
-abbrev pub outcome_in : List ℕ × Told → Option Entry
-outcome_in c = option_map (outcome_by c.1) (reply_for c.1.answer)
+abbrev pub outcome_in : CallAt → Option Entry
+outcome_in c = option_map (outcome_by c.told) (reply_for c.told.answer)
 
 abbrev pub is_outcome : Entry → Bool
 is_outcome (entry.Outcome number token answer before after) = true
 is_outcome e = false
 
 -- the calls on the lane of a name
-abbrev pub calls_on : List ℕ → List (List ℕ × Told) → List Told
-calls_on name cs = filter_map (λ c. if bytes_eq name c.0 then Some c.1 else None) cs
+abbrev pub calls_on : List ℕ → List CallAt → List Told
+calls_on name cs = filter_map (λ c. if bytes_eq name c.lane then Some c.told else None) cs
 
 -- Counts that follow one another: each call's lie between those of the calls around it.
 abbrev pub AreInTurn : ℕ → List Told → ℕ → Type 0

@@ -13,23 +13,24 @@ use Rattle.cf_lane.specs.Lanes.{IsFenced, LaneNow}
 use Rattle.cf_lane.specs.declared.told.Told.{Told}
 use Rattle.cf_book.specs.Granting.{IsDurable}
 use Rattle.cf_book.specs.State.{BookNow}
+use Rattle.cf_workers.specs.Driving.{CallAt}
 use Rattle.cf_workers.specs.Growing.{Extends}
 
--- the Intent of a call on the lane of this name is among the entries
-abbrev pub HasIntent : List Entry → List ℕ → Told → Type 0
-HasIntent es lane call = (number : ℕ) × (path : List ℕ) × In (entry.Intent number call.token lane path call.request) es
+-- The Intent of the call is among the entries: with its token, path, lane and request, of an operation of any number.
+abbrev pub HasIntent : List Entry → CallAt → Type 0
+HasIntent es c = (number : ℕ) × In (entry.Intent number c.told.token c.lane c.path c.told.request) es
 
 -- the file's record begins with these entries
 abbrev pub BeginsWith : List Entry → List ℕ → Type 0
 BeginsWith es file = (now : List Entry) × (record_of file ≡ Ok now) × Extends es now
 
 -- There was a moment of the command at which each file that a crash might leave had just the entries that were acknowledged; the call's
--- Intent was among them, and the call was open: its outcome was not. Each file that a crash might leave then, or at any later moment of
--- the command, begins with these entries.
-pub record IsIntendedIn {D : Type 0} (g : DiskGhosts D) (disk disk' : D) (lane : List ℕ) (call : Told) : Type 0 where
+-- Intent was among them, and its token was open. Each file that a crash might leave then, or at any later moment of the command, begins
+-- with these entries.
+pub record IsIntendedIn {D : Type 0} (g : DiskGhosts D) (disk disk' : D) (c : CallAt) : Type 0 where
   pub lent : BookNow D
-  pub intent : HasIntent lent.entries lane call
-  pub durable : IsDurable g lent lane (granted_in call)
+  pub intent : HasIntent lent.entries c
+  pub durable : IsDurable g lent c.lane (granted_in c.told)
   pub within : IsTrue g.tells → g.moment disk ≤ g.moment lent.disk
   pub since : IsTrue g.tells → LeavesOnly g.moment g.left_since lent.disk disk' (BeginsWith lent.entries)
 

@@ -12,7 +12,7 @@ use Rattle.cf_book.specs.Record.{KeepsDisk}
 use Rattle.cf_book.specs.State.{BookNow}
 use Rattle.cf_book.specs.declared.stop.StopFault.{StopFault}
 use Rattle.cf_book.specs.declared.stop.StopFault.TheVariants as stop
-use Rattle.cf_workers.specs.Counting.{AreFewIn, calls_in, paths_in}
+use Rattle.cf_workers.specs.Counting.{AreFewIn, calls_in}
 use Rattle.cf_workers.specs.Growing.{Extends}
 use Rattle.cf_workers.specs.Driving.{AreSameLanes, Course, DrivesTo, Grows, RoundTells, TellsCalls, names_of}
 use Rattle.cf_workers.specs.declared.drive.Drove.{Drove}
@@ -59,7 +59,7 @@ pub record Drives {D : Type 0} (g : Ghosts D) (number : ℕ) (old new : BookNow 
   pub stretch : IsStretch g old new
   pub never_old : IsNeverOld old drove
   pub calls : (last : BookNow D) (course : Course g number old last) → TellsCalls course
-  pub few : AreFewIn old (calls_in g number old new drove tells) (paths_in g number old new drove tells)
+  pub few : AreFewIn old (calls_in g number old new drove tells)
 
 -- A run over a stopped book comes to what stopped it, and does nothing.
 abbrev pub DrivesAs : {D : Type 0} → Ghosts D → ℕ → BookNow D → BookNow D → Option StopFault → Drove → Type 0

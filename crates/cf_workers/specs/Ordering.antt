@@ -18,6 +18,8 @@ use Rattle.cf_book.specs.Record.{KeepsDisk, KnowsDisk, world_left}
 use Rattle.cf_book.specs.State.{BookLane, BookNow, home_of}
 use Rattle.cf_book.specs.declared.stop.StopFault.{StopFault}
 use Rattle.cf_book.specs.declared.stop.StopFault.TheVariants as stop
+use Rattle.cf_workers.specs.Counting.{AreFewIn, calls_in}
+use Rattle.cf_workers.specs.declared.drive.Drove.{Drove}
 use Rattle.cf_workers.specs.declared.drive.Drove.TheVariants.{Over, Stopped}
 use Rattle.cf_workers.specs.Driving.{DrivesTo, EndsWith, Grows, IsAtRest}
 
@@ -69,14 +71,18 @@ abbrev pub WasBegun : {D : Type 0} → Ghosts D → BookNow D → BookNow D → 
 WasBegun g old begun ordered number =
     BeginsOrder g old begun ordered (Ok number) × (begun.lanes ≡ old.lanes) × IsAtRest g begun × KeepsDisk g old begun × Grows g old begun
 
+-- the operation is driven to this, with few calls where the book as it was stands for a life
+abbrev pub DrivesFew : {D : Type 0} → Ghosts D → ℕ → BookNow D → BookNow D → BookNow D → Drove → Type 0
+DrivesFew g number old begun new drove = (tells : DrivesTo g number begun new drove) × AreFewIn old (calls_in g number begun new drove tells)
+
 -- What is ordered is driven to its end, which leaves the stack in this status; or its beginning could not be written, or the book stopped
 -- later.
 abbrev pub RunsOrder : {D : Type 0} → Ghosts D → BookNow D → BookNow D → Order → Result Status StopFault → Type 0
 RunsOrder {D} g old new ordered (Ok status) =
-    (number : ℕ) × (begun : BookNow D) × WasBegun g old begun ordered number × DrivesTo g number begun new (Over status)
+    (number : ℕ) × (begun : BookNow D) × WasBegun g old begun ordered number × DrivesFew g number old begun new (Over status)
 RunsOrder {D} g old new ordered (Err fault) =
     (BeginsOrder g old new ordered (Err fault) × (new.lanes ≡ old.lanes) × KnowsDisk g new)
-    ⊎ ((number : ℕ) × (begun : BookNow D) × WasBegun g old begun ordered number × DrivesTo g number begun new (Stopped fault))
+    ⊎ ((number : ℕ) × (begun : BookNow D) × WasBegun g old begun ordered number × DrivesFew g number old begun new (Stopped fault))
 
 -- The stack is there, and its operation, of this number, has ended in this status: its end is the last entry.
 pub record IsEnded {D : Type 0} (new : BookNow D) (name : List ℕ) (number : ℕ) (status : Status) : Type 0 where

@@ -64,7 +64,7 @@ fn drive<D: Disk, H: Handler>(alloc: Global, book: &mut Book<D, H>, number: u64)
 ///
 /// Each outcome that is written is the answer of the call that was made then, and each lane's log has its calls in that order, with
 /// counts that follow one another. A run makes no call more than three times in one phase, and, where journal and lanes agree, at most 54
-/// calls for each path that it calls: a path has at most six tokens in an operation, and an operation at most three phases.
+/// calls of any one path: these go out under at most six tokens, each at most nine times, three in each of at most three phases.
 pub fn drive_alone<D: Disk, H: Handler>(alloc: Global, book: &mut Book<D, H>, number: u64) -> Drove
     requires begun { HasBegun book.old.entries number }
     requires home { NoneOut book.old.lanes }

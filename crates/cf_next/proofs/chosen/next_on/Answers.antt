@@ -9,5 +9,10 @@ returns-in-Some c = λ stage in_stage.
 
 pub returns-in-Some-2 : goal.returns-in-Some-2
 returns-in-Some-2 c = λ stage in_stage.
-    subst (IsTaken c.args.out.now c.args.world.now.world c.args.stack.now.stack) c.in-Some-2.is c.in_ok-create.ensures c.args.schemas.now
+    subst (IsTaken c.args.out.now c.args.world.now.world c.args.stack.now.stack) c.in-Some-2.is c.in_ok-restore.ensures c.args.schemas.now
+    c.args.name.now stage in_stage
+
+pub returns-in-Some-3 : goal.returns-in-Some-3
+returns-in-Some-3 c = λ stage in_stage.
+    subst (IsTaken c.args.out.now c.args.world.now.world c.args.stack.now.stack) c.in-Some-3.is c.in_ok-create.ensures c.args.schemas.now
     c.args.name.now stage in_stage

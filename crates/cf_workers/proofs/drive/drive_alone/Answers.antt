@@ -1,4 +1,4 @@
-use Rattle.std.proofs.Common.{◌≡◌, Some, None, refl, sym, ◌∙◌, subst}
+use Rattle.std.proofs.Common.{refl, sym, ◌∙◌, subst}
 use Rattle.cf_workers.specs.declared.drive.Drove.TheVariants.{Stopped}
 use Rattle.cf_workers.specs.Leading.{DrivesAs}
 use Rattle.cf_workers.proofs.Runs.{back_home, rested}

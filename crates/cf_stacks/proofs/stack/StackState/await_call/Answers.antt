@@ -22,6 +22,7 @@ invariant_of-self c =
       apart = c.self-2.invariant.apart;
       findings = c.self-2.invariant.findings;
       undoing = c.self-2.invariant.undoing;
+      restoring = c.self-2.invariant.restoring;
     }
 
 pub returns-in-Ok-clause-ok : goal.returns-in-Ok-clause-ok

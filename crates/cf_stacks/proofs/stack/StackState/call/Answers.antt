@@ -1,5 +1,6 @@
 use Rattle.std.proofs.Common.{◌≡◌, ℕ, ◌-◌, List, [], ◌∷◌, ◌++◌, IfSome, arith, ap, sym, ◌∙◌, map, refl, subst}
 use Rattle.cf_effect.specs.Ahead.{AreKept}
+use Rattle.cf_effect.specs.Restoring.{IsRestoring}
 use Rattle.cf_effect.specs.Undoing.{IsUndoing}
 use Rattle.cf_effect.specs.Reply.{intending}
 use Rattle.cf_stacks.specs.Room.{StackStanding, with_awaited}
@@ -41,6 +42,10 @@ invariant_of-self c =
           subst (λ (t : StackState). IfSome c.follow_try.new.undoing (IsUndoing t))
           (sym (heard_so _ _ c.args.parts.call.number c.args.parts.pending s c.args.entry c.new.result c.args.parts.line c.intend.ensures.state c.hear.ensures.state c.new.ensures))
           (c.follow_try.ensures c.args.entry (c.args.parts.line ∷ []));
+      restoring =
+          subst (λ (t : StackState). IfSome c.follow_restore.new.restoring (IsRestoring t))
+          (sym (heard_so _ _ c.args.parts.call.number c.args.parts.pending s c.args.entry c.new.result c.args.parts.line c.intend.ensures.state c.hear.ensures.state c.new.ensures))
+          (c.follow_restore.ensures (c.args.parts.line ∷ []));
     }
 
 pub returns : goal.returns

@@ -15,6 +15,7 @@ invariant_of-self c = record {
   apart = c.self.invariant.apart;
   findings = c.self.invariant.findings;
   undoing = c.self.invariant.undoing;
+  restoring = c.self.invariant.restoring;
 }
 
 pub returns : goal.returns

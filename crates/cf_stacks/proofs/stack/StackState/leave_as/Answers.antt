@@ -22,4 +22,5 @@ invariant_of-self c =
       apart = c.requires.apart apart;
       findings = rw c.lose.ensures tt;
       undoing = rw c.lose_undoing.ensures tt;
+      restoring = rw c.lose_restoring.ensures tt;
     })

@@ -21,4 +21,5 @@ invariant_of-self c =
       apart = subst (λ (t : StackState). HaveOwnTokens t.tokens) (sym c.open.ensures.state) k.1;
       findings = rw c.lose.ensures tt;
       undoing = rw c.lose_undoing.ensures tt;
+      restoring = rw c.lose_restoring.ensures tt;
     }

@@ -12,4 +12,5 @@ invariant_of-self-in_err-reserve-2 c = record {
   apart = subst HaveOwnTokens (sym (ap (λ (s : StackState). s.tokens) c.reserve-2.ensures.same)) c.self.invariant.apart;
   findings = rw c.reserve-2.ensures.same c.self.invariant.findings;
   undoing = rw c.reserve-2.ensures.same c.self.invariant.undoing;
+  restoring = rw c.reserve-2.ensures.same c.self.invariant.restoring;
 }

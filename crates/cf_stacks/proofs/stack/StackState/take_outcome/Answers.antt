@@ -1,5 +1,6 @@
 use Rattle.std.proofs.Common.{◌≡◌, ℕ, Bool, true, false, List, Some, None, IfSome, arith, ap, sym, ◌∙◌, find, map, subst}
 use Rattle.cf_effect.specs.Ahead.{AreKept}
+use Rattle.cf_effect.specs.Restoring.{IsRestoring}
 use Rattle.cf_effect.specs.Undoing.{IsUndoing}
 use Rattle.cf_effect.specs.Fold.{effect_at}
 use Rattle.cf_effect.specs.Bounds.{IsShortOutcomeOf}
@@ -36,6 +37,7 @@ invariant_of-self c =
       apart = subst (λ (t : StackState). HaveOwnTokens t.tokens) (sym c.take_outcome.ensures.state) k.1;
       findings = subst (λ (t : StackState). IfSome c.follow.new.findings (AreKept t)) (sym c.take_outcome.ensures.state) (c.follow.ensures c.args.place);
       undoing = subst (λ (t : StackState). IfSome c.follow_deletion.new.undoing (IsUndoing t)) (sym c.take_outcome.ensures.state) (c.follow_deletion.ensures c.args.place);
+      restoring = subst (λ (t : StackState). IfSome c.follow_restored.new.restoring (IsRestoring t)) (sym c.take_outcome.ensures.state) (c.follow_restored.ensures c.args.place);
     }
 
 pub unreachable-requires : goal.unreachable-requires

@@ -1,0 +1,4 @@
+pub mod File
+pub mod Disk
+pub mod Memory
+pub mod Real

@@ -1,0 +1,125 @@
+//! What a command that drives no handlers asks, and what the journal tells.
+ghost use Rattle.std.specs.Prelude.{◌≡◌, ◌≤◌, ◌^◌, IfOk, IsTrue};
+ghost use Rattle.cf_disk.specs.Disk.{LeavesOnly};
+ghost use Rattle.cf_effect.specs.World.{stack_at};
+ghost use Rattle.cf_face.specs.Exit.{ending_text};
+ghost use Rattle.cf_face.specs.Print.{PrintTells};
+ghost use Rattle.cf_face.specs.Report.{events_report, list_report};
+ghost use Rattle.cf_face.specs.declared.exit.Exit.TheVariants.{Done, StackRefused};
+ghost use Rattle.cf_face.specs.declared.exit.StackFault.TheVariants.{NoStack};
+ghost use Rattle.cf_journal.specs.Record.{IsOldOrKept, KeepsRecord};
+ghost use Rattle.cf_top.specs.Answer.{TellsFrom, question_words};
+ghost use Rattle.cf_top.specs.Telling.{described_exit, described_text, events_text, subject_exit, subject_text};
+
+use crate::opening::world_on;
+use crate::telling::tell_stack;
+use cf_disk::Disk;
+use cf_face::{
+    Exit, Question, StackFault, Subject, events_report, list_report, print_exit, put, read_words,
+};
+use cf_io::Sink;
+use cf_stacks::{StackState, World};
+use cf_tree::{NoMemory, Txt};
+use std::alloc::Global;
+
+/// What the words ask, if they are a command that drives no handlers.
+pub fn read_question(alloc: Global, words: &[Txt]) -> Result<Option<Question>, NoMemory>
+    ensures { IfOk result (λ asked. asked ≡ question_words words.now) }
+{
+    match read_words(alloc, words)? {
+        Some(command) => Ok(command.into_question()),
+        None => Ok(None),
+    }
+}
+
+/// Prints that there is no stack of the name.
+fn tell_none<K: Sink>(alloc: Global, out: &mut K) -> Exit
+    ensures faults { K.count out.old ≤ K.count out.new }
+    ensures tells { PrintTells (K.held out.old) (K.held out.new) (K.count out.old) (K.count out.new)
+        (ending_text (StackRefused NoStack)) (StackRefused NoStack) result }
+{
+    let fault = StackFault::NoStack;
+    print_exit(alloc, out, Exit::StackRefused { fault })
+}
+
+/// Prints the report on the stack of a name, or that there is none.
+fn describe<K: Sink>(alloc: Global, out: &mut K, name: &Txt, world: &World) -> Exit
+    ensures faults { K.count out.old ≤ K.count out.new }
+    ensures tells { PrintTells (K.held out.old) (K.held out.new) (K.count out.old) (K.count out.new)
+        (described_text name.now (stack_at name.now world.now.world)) (described_exit (stack_at name.now world.now.world)) result }
+{
+    match world.stack(name.as_str()) {
+        Some(stack) => tell_stack(alloc, out, name, stack, Exit::Done),
+        None => tell_none(alloc, out),
+    }
+}
+
+/// Prints the report on what became of a stack.
+fn tell_events<K: Sink>(alloc: Global, out: &mut K, stack: &StackState) -> Exit
+    ensures faults { K.count out.old ≤ K.count out.new }
+    ensures tells { PrintTells (K.held out.old) (K.held out.new) (K.count out.old) (K.count out.new)
+        (events_report stack.now.stack Done) Done result }
+{
+    match events_report(alloc, stack, &Exit::Done) {
+        Ok(text) => put(out, text.as_str(), Exit::Done),
+        Err(NoMemory) => Exit::NoMemory,
+    }
+}
+
+/// Prints the report on what became of the stack of a name, or that there is none.
+fn events<K: Sink>(alloc: Global, out: &mut K, name: &Txt, world: &World) -> Exit
+    ensures faults { K.count out.old ≤ K.count out.new }
+    ensures tells { PrintTells (K.held out.old) (K.held out.new) (K.count out.old) (K.count out.new)
+        (events_text (stack_at name.now world.now.world)) (described_exit (stack_at name.now world.now.world)) result }
+{
+    match world.stack(name.as_str()) {
+        Some(stack) => tell_events(alloc, out, stack),
+        None => tell_none(alloc, out),
+    }
+}
+
+/// Prints the report on all stacks.
+fn list<K: Sink>(alloc: Global, out: &mut K, world: &World) -> Exit
+    ensures faults { K.count out.old ≤ K.count out.new }
+    ensures tells { PrintTells (K.held out.old) (K.held out.new) (K.count out.old) (K.count out.new)
+        (list_report world.now.world.stacks Done) Done result }
+{
+    match list_report(alloc, world.stacks(), &Exit::Done) {
+        Ok(text) => put(out, text.as_str(), Exit::Done),
+        Err(NoMemory) => Exit::NoMemory,
+    }
+}
+
+/// Prints what a world tells of a subject, or that there is no stack of the name.
+fn tell<K: Sink>(alloc: Global, out: &mut K, what: &Subject, world: &World) -> Exit
+    ensures faults { K.count out.old ≤ K.count out.new }
+    ensures tells { PrintTells (K.held out.old) (K.held out.new) (K.count out.old) (K.count out.new)
+        (subject_text what.now world.now.world) (subject_exit what.now world.now.world) result }
+{
+    match what {
+        Subject::Stack(name) => describe(alloc, out, name, world),
+        Subject::Events(name) => events(alloc, out, name, world),
+        Subject::Stacks => list(alloc, out, world),
+    }
+}
+
+/// Prints what the journal of a disk tells of a subject, or why it could not be opened.
+pub fn tell_from<K: Sink, D: Disk>(alloc: Global, out: &mut K, disk: &mut D, what: &Subject) -> Exit
+    requires least { 16 ≤ D.room_of disk.old }
+    requires most { D.room_of disk.old ≤ 2 ^ 32 }
+    ensures room { D.room_of disk.new ≡ D.room_of disk.old }
+    ensures kept { IsTrue D.tells → KeepsRecord (D.seen disk.old) (D.seen disk.new) }
+    ensures any_moment { IsTrue D.tells → LeavesOnly D.moment D.left_since disk.old disk.new
+        (IsOldOrKept (D.may_leave disk.old) (D.seen disk.old)) }
+    ensures tells { TellsFrom D.tells (D.seen disk.old) (D.seen disk.new) (D.count disk.old) (D.count disk.new)
+        (record { held = K.held out.old; held' = K.held out.new; faults = K.count out.old; faults' = K.count out.new }) what.now result }
+{
+    match world_on(alloc, disk) {
+        Ok(world) => {
+            let exit = tell(alloc, out, what, &world);
+            drop(world);
+            exit
+        }
+        Err(exit) => print_exit(alloc, out, exit),
+    }
+}
