@@ -19,9 +19,9 @@ them. Where there is no valgrind the column is `-`. Times and memory are those o
 Peak memory below that of this script's own process, some 11 MB, is not seen.
 
 Every resource is a record whose value refers to the one that it needs. A creation is rolled back for an output whose index
-lies outside its list once all is made. Disk and lanes are in memory. The templates stand in a folder that is removed
-afterwards. An update gives every resource another value; it is rolled back because the lane refuses the last call of it.
-Deletions and change sets are not measured, since no command of the program does them yet.
+lies outside its list once all is made. The home is removed afterwards, and each run begins with a new journal and new lanes;
+of scenarios disk and lanes are in memory. An update gives every resource another value; it is rolled back because the lane
+refuses the last call of it. Deletions and change sets are not measured, since no command of the program does them yet.
 """
 import json
 import os
@@ -70,8 +70,16 @@ def template(count, need, back, word=""):
     return json.dumps(text, separators=(",", ":")).encode()
 
 
-def run(words, count, back):
-    """A run, which must make all resources, or hold none; its seconds and what it printed as errors."""
+def clear(home):
+    """Leaves nothing in a home but its templates."""
+    for name in ("files", "records"):
+        shutil.rmtree(os.path.join(home, name), ignore_errors=True)
+    Path(home, "journal").unlink(missing_ok=True)
+
+
+def run(words, count, back, home):
+    """A run over a new journal, which must make all resources, or hold none; its seconds and what it printed as errors."""
+    clear(home)
     begin = time.perf_counter()
     ended = subprocess.run(words, stdout=subprocess.PIPE, stderr=subprocess.PIPE, check=False)
     end = time.perf_counter()
@@ -82,8 +90,9 @@ def run(words, count, back):
     return end - begin, ended.stderr.decode()
 
 
-def peak(words):
+def peak(words, home):
     """The peak memory of a run in MB."""
+    clear(home)
     child = os.fork()
     if child == 0:
         null = os.open(os.devnull, os.O_WRONLY)
@@ -99,7 +108,7 @@ def instructions(words, count, back, home):
     if shutil.which("valgrind") is None:
         return None
     counted = ["valgrind", "--tool=callgrind", f"--callgrind-out-file={home}/counted", *words]
-    _, told = run(counted, count, back)
+    _, told = run(counted, count, back, home)
     found = re.search(r"Collected : (\d+)", told)
     return int(found.group(1)) if found else None
 
@@ -113,10 +122,10 @@ def measure(program, home, counts, back):
             text = template(count, need, back)
             Path(home, "templates", f"{shape}{count}").write_bytes(text)
             words = [program, home, "1", "deploy", "s", f"{shape}{count}"]
-            least = min(run(words, count, back)[0] for _ in range(RUNS))
+            least = min(run(words, count, back, home)[0] for _ in range(RUNS))
             taken[count] = instructions(words, count, back, home)
             shown = "-" if taken[count] is None else f"{taken[count] / 1e6:.1f}"
-            print(f"{name:12}{shape:6}{count:>10}{len(text):>10}{shown:>14}{least:>10.3f}{peak(words):>10.1f}", flush=True)
+            print(f"{name:12}{shape:6}{count:>10}{len(text):>10}{shown:>14}{least:>10.3f}{peak(words, home):>10.1f}", flush=True)
         most = counts[-1] if counts else 0
         if taken.get(most) and taken.get(most // 2):
             ratio = taken[most] / taken[most // 2]

@@ -67,8 +67,8 @@ fn is_heard_setback(heard: &HeardEntry) -> bool
     }
 }
 
-/// Whether one of these entries is an outcome that may fail the phase.
-fn has_setback(entries: &[HeardEntry]) -> bool
+/// Whether one of these entries is an outcome that may fail the phase: a refusal or a doubt. It goes over the entries once.
+pub fn has_setback(entries: &[HeardEntry]) -> bool
     ensures { result ≡ list_any is_setback entries.now }
 {
     entries.iter().any(is_heard_setback)

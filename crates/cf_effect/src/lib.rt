@@ -28,7 +28,7 @@ mod terms;
 mod tokens;
 mod undoing;
 
-pub use ahead::{Ahead, Way, follow_call};
+pub use ahead::{Ahead, Way, follow_call, has_setback};
 pub use begin::source_for;
 pub use call::{Call, Ledger, Settled, new_call};
 pub use cf_export::{Output, Outputs};

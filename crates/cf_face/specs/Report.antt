@@ -1,5 +1,5 @@
--- The reports on a stack, on what became of it, and on all stacks (this project's own).
-use Rattle.std.specs.Prelude.{ℕ, ◌==◌, Bool, true, false, ◌&&◌, ◌||◌, List, [], ◌∷◌, ◌++◌, Option, Some, None, fold, decimal, codes, option_and_then, if◌then◌else◌}
+-- The reports on a stack, on one of the load mode, on what became of a stack, and on all stacks (this project's own).
+use Rattle.std.specs.Prelude.{ℕ, ◌==◌, Bool, true, false, ◌&&◌, ◌||◌, List, [], ◌∷◌, ◌++◌, Option, Some, None, fold, length, decimal, codes, option_and_then, if◌then◌else◌}
 use Rattle.std.specs.List.{flat_map}
 use Rattle.std.specs.Option.{option_or, option_map_or, unwrap_or}
 use Rattle.std.specs.Str.{bytes_eq}
@@ -131,6 +131,20 @@ stack_report name s e =
     ++ (flat_map leftover_line s.leftovers
     ++ (flat_map failed_line (last_failed s.entries)
     ++ exit_line e)))))
+
+-- the line of the output `Last`, which a stack of the load mode has: its value as compact JSON
+abbrev pub last_line : Output → List ℕ
+last_line o = if bytes_eq (codes "Last") o.name then line_of (codes "last") (text_word o.value ∷ []) else []
+
+-- The report on a stack of the load mode with so many records: its status, how many resources it holds, the output `Last`, where it is
+-- there, and how the command ended.
+abbrev pub load_report : ℕ → List ℕ → StackState → Exit → List ℕ
+load_report count name s e =
+    line_of (codes "load") (decimal count ∷ [])
+    ++ (line_of (codes "stack") (name ∷ status_name s.status ∷ [])
+    ++ (line_of (codes "resources") (decimal (length s.held) ∷ [])
+    ++ (flat_map last_line s.outputs
+    ++ exit_line e)))
 
 -- The report on what became of a stack: the lines that it keeps (`lines_of`), one for each entry that concerns it, the earliest first, and
 -- how the command ended.

@@ -1,5 +1,5 @@
 -- What the words of a command line ask for: the table of commands (this project's own).
-use Rattle.std.specs.Prelude.{ℕ, ◌==◌, ◌&&◌, ◌||◌, ◌+◌, ◌-◌, ◌*◌, ◌++◌, Bool, true, false, if◌then◌else◌, List, [], ◌∷◌, length, sum_by, nat_le, nat_lt, Option, None, Some, is_some, option_map, option_and_then, codes}
+use Rattle.std.specs.Prelude.{ℕ, ◌==◌, ◌&&◌, ◌||◌, ◌+◌, ◌-◌, ◌*◌, ◌++◌, Bool, true, false, if◌then◌else◌, List, [], ◌∷◌, length, sum_by, nat_le, nat_lt, Option, None, Some, is_some, option_map, option_and_then, codes, decimal}
 use Rattle.std.specs.List.{list_all}
 use Rattle.std.specs.Str.{bytes_eq}
 use Rattle.std.specs.Int.{is_in_range}
@@ -8,6 +8,7 @@ use Rattle.cf_funcs.specs.Pieces.{cut_at, pieces_of}
 use Rattle.cf_tree.specs.Keys.{put, value_at}
 use Rattle.cf_tree.specs.Lists.{is_among}
 use Rattle.cf_template.specs.Words.{is_name}
+use Rattle.cf_face.specs.declared.words.Choice.{Choice}
 use Rattle.cf_face.specs.declared.words.Command.{Command}
 use Rattle.cf_face.specs.declared.words.Command.TheVariants as command
 use Rattle.cf_face.specs.declared.words.Question.{Question}
@@ -96,6 +97,30 @@ abbrev pub validate_of : List (List ℕ) → Option Command
 validate_of (template ∷ []) = if is_template_name template then Some (command.Validate template) else None
 validate_of _ = None
 
+-- the number of records that a word names: a decimal number from 1 to 500 without a leading zero, of one to three digits (this project's
+-- own)
+abbrev pub load_count_of : List ℕ → Option ℕ
+load_count_of (one ∷ []) = if is_in_range 49 57 one then Some (one - 48) else None
+load_count_of (ten ∷ one ∷ []) =
+    if is_in_range 49 57 ten && is_in_range 48 57 one then Some (10 * (ten - 48) + (one - 48)) else None
+load_count_of (hundred ∷ ten ∷ one ∷ []) =
+    let number = 100 * (hundred - 48) + (10 * (ten - 48) + (one - 48)) in
+    if is_in_range 49 57 hundred && (is_in_range 48 57 ten && (is_in_range 48 57 one && nat_le number 500)) then Some number else None
+load_count_of _ = None
+
+-- `load N`
+abbrev pub load_of : List (List ℕ) → Option Command
+load_of (word ∷ []) = option_map command.Load (load_count_of word)
+load_of _ = None
+
+-- the name of the stack of the load mode with so many records, and that of its template (this project's own)
+abbrev pub load_name : ℕ → List ℕ
+load_name count = codes "load-" ++ decimal count
+
+-- that template, which has no parameters
+abbrev pub load_choice : ℕ → Choice
+load_choice count = record { template = load_name count; given = [] }
+
 -- the command that the words ask for, by the first of them; None where no row of the table fits
 abbrev pub command_of : List (List ℕ) → Option Command
 command_of [] = None
@@ -103,16 +128,18 @@ command_of (word ∷ words) =
     if bytes_eq (codes "deploy") word then deploy_of words
     else (if bytes_eq (codes "continue-rollback") word then continue_of words
     else (if bytes_eq (codes "resume") word then resume_of words
+    else (if bytes_eq (codes "load") word then load_of words
     else (if bytes_eq (codes "describe") word then describe_of words
     else (if bytes_eq (codes "events") word then events_of words
     else (if bytes_eq (codes "list") word then list_of words
-    else (if bytes_eq (codes "validate") word then validate_of words else None))))))
+    else (if bytes_eq (codes "validate") word then validate_of words else None)))))))
 
 -- whether a command changes a stack, and so drives handlers
 abbrev pub drives : Command → Bool
 drives (command.Deploy stack template given) = true
 drives (command.ContinueRollback stack paths) = true
 drives (command.Resume stack) = true
+drives (command.Load count) = true
 drives (command.Describe stack) = false
 drives (command.Events stack) = false
 drives command.List = false
@@ -123,6 +150,7 @@ abbrev pub task_of : Command → Option (List ℕ × Task)
 task_of (command.Deploy stack template given) = Some (stack, task.Deploy (record { template = template; given = given }))
 task_of (command.ContinueRollback stack paths) = Some (stack, task.Continue paths)
 task_of (command.Resume stack) = Some (stack, task.Resume)
+task_of (command.Load count) = Some (load_name count, task.Load count)
 task_of _ = None
 
 -- what a command asks that drives no handlers: a template of the library, or the journal

@@ -6,6 +6,7 @@ mod cause;
 mod exit;
 mod fault_words;
 mod line;
+mod load;
 mod overview;
 mod parameters;
 mod print;
@@ -14,7 +15,10 @@ mod telling;
 mod words;
 
 pub use exit::{Exit, Refusal, StackFault};
+pub use load::load_report;
 pub use overview::{events_report, list_report};
 pub use print::{print_exit, print_text, put};
 pub use telling::report;
-pub use words::{Choice, Command, Question, Subject, Task, read_words, read_workers};
+pub use words::{
+    Choice, Command, Question, Subject, Task, load_choice, load_name, read_words, read_workers,
+};

@@ -5,7 +5,7 @@ ghost use Rattle.std.specs.Char.{is_ascii_alphanumeric};
 ghost use Rattle.std.specs.List.{list_all};
 ghost use Rattle.cf_template.specs.Words.{is_name};
 ghost use Rattle.cf_face.specs.declared.words.Command.TheVariants.{ContinueRollback, Deploy};
-ghost use Rattle.cf_face.specs.Words.{command_of, continue_of, drives, workers_of, deploy_of, describe_of, events_of, list_of, resume_of, validate_of, setting_in_word, given_of, is_path, is_stack_name, is_template_name, is_name_byte, paths_of, question_of, task_of};
+ghost use Rattle.cf_face.specs.Words.{command_of, continue_of, drives, workers_of, deploy_of, describe_of, events_of, list_of, resume_of, validate_of, setting_in_word, given_of, is_path, is_stack_name, is_template_name, is_name_byte, paths_of, question_of, task_of, load_choice, load_count_of, load_name, load_of};
 
 use cf_funcs::{cut, split};
 use cf_tree::{Names, NoMemory, Pairs, Txt};
@@ -30,6 +30,8 @@ pub enum Task {
     Continue(Names),
     /// End the operation that is in progress on it.
     Resume,
+    /// Create it by the template of the load mode with so many records, or update it by that.
+    Load(u32),
 }
 
 /// What the journal is to tell.
@@ -70,6 +72,10 @@ pub enum Command {
     Resume {
         stack: Txt,
     },
+    /// `load N`: bring the stack `load-N` to what the template of the load mode with N records says.
+    Load {
+        count: u32,
+    },
     /// `describe STACK`: report on the stack.
     Describe {
         stack: Txt,
@@ -92,9 +98,10 @@ impl Command {
         ensures { result ≡ drives self.now }
     {
         match self {
-            Command::Deploy { .. } | Command::ContinueRollback { .. } | Command::Resume { .. } => {
-                true
-            }
+            Command::Deploy { .. }
+            | Command::ContinueRollback { .. }
+            | Command::Resume { .. }
+            | Command::Load { .. } => true,
             Command::Describe { .. }
             | Command::Events { .. }
             | Command::List
@@ -103,21 +110,26 @@ impl Command {
     }
 
     /// The stack that the command changes and what is to be done with it, if it changes one.
-    pub fn into_task(self) -> Option<(Txt, Task)>
-        ensures { result ≡ task_of self }
+    ///
+    /// # Errors
+    ///
+    /// Only for want of memory.
+    pub fn into_task(self, alloc: Global) -> Result<Option<(Txt, Task)>, NoMemory>
+        ensures { IfOk result (λ named. named ≡ task_of self) }
     {
         match self {
             Command::Deploy {
                 stack,
                 template,
                 given,
-            } => Some((stack, Task::Deploy(Choice { template, given }))),
-            Command::ContinueRollback { stack, paths } => Some((stack, Task::Continue(paths))),
-            Command::Resume { stack } => Some((stack, Task::Resume)),
+            } => Ok(Some((stack, Task::Deploy(Choice { template, given })))),
+            Command::ContinueRollback { stack, paths } => Ok(Some((stack, Task::Continue(paths)))),
+            Command::Resume { stack } => Ok(Some((stack, Task::Resume))),
+            Command::Load { count } => Ok(Some((load_name(alloc, count)?, Task::Load(count)))),
             Command::Describe { stack: _ }
             | Command::Events { stack: _ }
             | Command::List
-            | Command::Validate { template: _ } => None,
+            | Command::Validate { template: _ } => Ok(None),
         }
     }
 
@@ -135,7 +147,9 @@ impl Command {
                 template: _,
                 given: _,
             } => None,
-            Command::ContinueRollback { stack: _, paths: _ } | Command::Resume { stack: _ } => None,
+            Command::ContinueRollback { stack: _, paths: _ }
+            | Command::Resume { stack: _ }
+            | Command::Load { count: _ } => None,
         }
     }
 }
@@ -145,7 +159,7 @@ impl Command {
 /// A stack's name is a letter, then letters, digits and `-`, at most 128 of them. A template's name has
 /// 1 to 128 bytes. What is given for a parameter is cut at the first `=`: the name before it has 1 to 255 letters and
 /// digits and stands once, the value behind it may be empty. A path is names of 1 to 255 letters and digits, joined by `/`,
-/// and stands once.
+/// and stands once. The number of records of a load is decimal, from 1 to 500 without a leading zero.
 ///
 /// # Errors
 ///
@@ -164,6 +178,9 @@ pub fn read_words(alloc: Global, words: &[Txt]) -> Result<Option<Command>, NoMem
     }
     if word.is("resume") {
         return read_resume(alloc, rest);
+    }
+    if word.is("load") {
+        return Ok(read_load(rest));
     }
     if word.is("describe") {
         return read_describe(alloc, rest);
@@ -348,6 +365,69 @@ fn read_resume(alloc: Global, words: &[Txt]) -> Result<Option<Command>, NoMemory
         }
         _ => Ok(None),
     }
+}
+
+// The words after `load`.
+fn read_load(words: &[Txt]) -> Option<Command>
+    ensures { result ≡ load_of words.now }
+{
+    match words {
+        [word] => match read_load_count(word) {
+            Some(count) => Some(Command::Load { count }),
+            None => None,
+        },
+        _ => None,
+    }
+}
+
+// The number of records that a word names.
+fn read_load_count(word: &Txt) -> Option<u32>
+    ensures { result ≡ load_count_of word.now }
+{
+    match word.as_str().as_bytes() {
+        [one] if b'1' <= *one && *one <= b'9' => Some(u32::from(*one - b'0')),
+        [ten, one] if b'1' <= *ten && *ten <= b'9' && one.is_ascii_digit() => {
+            Some(10 * u32::from(*ten - b'0') + u32::from(*one - b'0'))
+        }
+        [hundred, ten, one]
+            if b'1' <= *hundred
+                && *hundred <= b'9'
+                && ten.is_ascii_digit()
+                && one.is_ascii_digit() => {
+            let below = 10 * u32::from(*ten - b'0') + u32::from(*one - b'0');
+            let number = 100 * u32::from(*hundred - b'0') + below;
+            if number <= 500 { Some(number) } else { None }
+        }
+        _ => None,
+    }
+}
+
+/// The name of the stack of the load mode with so many records, and that of its template: `load-N`.
+///
+/// # Errors
+///
+/// Only for want of memory.
+pub fn load_name(alloc: Global, count: u32) -> Result<Txt, NoMemory>
+    ensures { IfOk result (λ name. name ≡ load_name count) }
+{
+    let digits = count.to_string(alloc)?;
+    let mut name = String::new(alloc);
+    name.push_str("load-")?;
+    name.push_str(digits.as_str())?;
+    Ok(Txt::new(name))
+}
+
+/// The template of the load mode with so many records, by its name; it has no parameters.
+///
+/// # Errors
+///
+/// Only for want of memory.
+pub fn load_choice(alloc: Global, count: u32) -> Result<Choice, NoMemory>
+    ensures { IfOk result (λ choice. choice ≡ load_choice count) }
+{
+    let template = load_name(alloc, count)?;
+    let given = Pairs::new(alloc);
+    Ok(Choice { template, given })
 }
 
 // The words after `describe`.

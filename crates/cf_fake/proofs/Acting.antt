@@ -20,7 +20,7 @@ use Rattle.cf_handler.specs.Fence.{FencedLane, Flying, CallMove, late_by, settle
 use Rattle.cf_handler.specs.Tells.{AreLate, LateEffect, Lates}
 use Rattle.cf_fake.specs.declared.waiting.Waiting.{Waiting}
 use Rattle.cf_fake.specs.Sound.{AnswersInLane, lane_of}
-use Rattle.cf_fake.specs.Table.{answer_to}
+use Rattle.cf_answers.specs.Table.{answer_to}
 use Rattle.cf_fake.specs.Plan.{new_entry}
 use Rattle.cf_fake.specs.Late.{IsTurn, MovesBy, flying_of, is_due, lane_at, late_settled, late_waiting}
 

@@ -37,9 +37,11 @@ use Rattle.cf_fake.specs.Refusable.{may_refuse, may_break}
 use Rattle.cf_fake.specs.Plan.{settled_by, told_by, IsWorked, new_entry}
 use Rattle.cf_handler.specs.Lane.{LaneState, Live, live_after, live_of, live_changed, updated, has_id, is_used, succeeded_with, settlement_of}
 use Rattle.cf_handler.specs.Name.{is_lane_name}
-use Rattle.cf_fake.specs.Table.{id_of, is_of_id, is_settable, is_there, are_valid, is_taken, is_fixed, measured, attrs_of, update_answer, delete_answer, answer_to, look_at}
-use Rattle.cf_fake.specs.Live.{has_other, differ, lives}
-use Rattle.cf_fake.specs.declared.live.LiveResource.{LiveResource}
+use Rattle.cf_answers.proofs.Free.{known-by}
+use Rattle.cf_answers.proofs.Differ.{updated_id, differ_updated, differ_filtered, differ_made}
+use Rattle.cf_answers.specs.Table.{id_of, is_of_id, is_settable, is_there, are_valid, is_taken, is_fixed, measured, attrs_of, update_answer, delete_answer, answer_to, look_at}
+use Rattle.cf_answers.specs.Live.{differ, lives}
+use Rattle.cf_answers.specs.declared.live.LiveResource.{LiveResource}
 use Rattle.std.specs.declared.alloc.AllocError.{AllocError}
 use Rattle.cf_fake.specs.Sound.{AnswersInLane, is_made_by, is_known, is_sound, are_sound, are_known, are_short, lane_of, IsSoundTable}
 
@@ -59,18 +61,10 @@ neither : (a b : Bool) → a ≡ false → b ≡ false → (a || b) ≡ false
 neither true b h g = h
 neither false b h g = g
 
-not_false : (b : Bool) → b ≡ false → not b ≡ true
-not_false true h = absurd (true≢false h)
-not_false false h = refl
-
 -- what is live after one more call
 pub live_more : (live : List Live) (ss : List Settled) (s : Settled) → live_after live (ss ++ s ∷ []) ≡ live_changed s.request s.settlement (live_after live ss)
 live_more live [] s = refl
 live_more live (x ∷ ss) s = live_more (live_changed x.request x.settlement live) ss s
-
-pub known-by : (a b c : Bool) → (b ≡ true → c ≡ true) → (a || b) ≡ true → (a || c) ≡ true
-known-by true b c f h = refl
-known-by false b c f h = f h
 
 -- an id that a token made is made by it still
 known_more : (name : List ℕ) (ss : List Settled) (s : Settled) (id : List ℕ) → is_known name ss id ≡ true → is_known name (ss ++ s ∷ []) id ≡ true
@@ -215,26 +209,9 @@ known_live name ss (r ∷ rs) id k h =
     ]
 
 -- ids after an update and after a deletion
-id-by : (b : Bool) (props attrs : List (List ℕ × Data)) (r : Live) → (cond b (record { id = r.id; kind = r.kind; props = props; attrs = attrs }) r).id ≡ r.id
-id-by true props attrs r = refl
-id-by false props attrs r = refl
-
-updated_id : (id : List ℕ) (props attrs : List (List ℕ × Data)) (r : Live) → (updated id props attrs r).id ≡ r.id
-updated_id id props attrs r = id-by (bytes_eq id r.id) props attrs r
-
 knowns_updated : (name : List ℕ) (ss : List Settled) (id : List ℕ) (props attrs : List (List ℕ × Data)) (live : List Live) → are_known name ss (map (updated id props attrs) live) ≡ are_known name ss live
 knowns_updated name ss id props attrs [] = refl
 knowns_updated name ss id props attrs (r ∷ rs) = λ i. is_known name ss (updated_id id props attrs r i) && knowns_updated name ss id props attrs rs i
-
-other_updated : (other id : List ℕ) (props attrs : List (List ℕ × Data)) (live : List Live) → has_other other (map (updated id props attrs) live) ≡ has_other other live
-other_updated other id props attrs [] = refl
-other_updated other id props attrs (r ∷ rs) = λ i. bytes_eq other (updated_id id props attrs r i) || other_updated other id props attrs rs i
-
-differ_updated : (id : List ℕ) (props attrs : List (List ℕ × Data)) (live : List Live) → differ (map (updated id props attrs) live) ≡ differ live
-differ_updated id props attrs [] = refl
-differ_updated id props attrs (r ∷ rs) =
-    let here : has_other (updated id props attrs r).id (map (updated id props attrs) rs) ≡ has_other r.id rs = ap (λ x. has_other x (map (updated id props attrs) rs)) (updated_id id props attrs r) ∙ other_updated r.id id props attrs rs in
-    λ i. not (here i) && differ_updated id props attrs rs i
 
 knowns_filtered-by : (b : Bool) (name : List ℕ) (ss : List Settled) (r : Live) (rs : List Live) → is_known name ss r.id ≡ true → are_known name ss rs ≡ true → are_known name ss (cond b (r ∷ rs) rs) ≡ true
 knowns_filtered-by true name ss r rs h g = both _ _ h g
@@ -244,48 +221,10 @@ knowns_filtered : (name : List ℕ) (ss : List Settled) (p : Live → Bool) (liv
 knowns_filtered name ss p [] h = refl
 knowns_filtered name ss p (r ∷ rs) h = knowns_filtered-by (p r) name ss r (filter p rs) (first_so _ _ h) (knowns_filtered name ss p rs (second_so (is_known name ss r.id) _ h))
 
-other_filtered-by : (b : Bool) (id : List ℕ) (r : Live) (rs : List Live) → bytes_eq id r.id ≡ false → has_other id rs ≡ false → has_other id (cond b (r ∷ rs) rs) ≡ false
-other_filtered-by true id r rs h g = neither _ _ h g
-other_filtered-by false id r rs h g = g
-
-left_false : (a b : Bool) → (a || b) ≡ false → a ≡ false
-left_false true b h = h
-left_false false b h = refl
-
-right_false : (a b : Bool) → (a || b) ≡ false → b ≡ false
-right_false true b h = absurd (true≢false h)
-right_false false b h = h
-
-other_filtered : (id : List ℕ) (p : Live → Bool) (live : List Live) → has_other id live ≡ false → has_other id (filter p live) ≡ false
-other_filtered id p [] h = refl
-other_filtered id p (r ∷ rs) h = other_filtered-by (p r) id r (filter p rs) (left_false (bytes_eq id r.id) (has_other id rs) h) (other_filtered id p rs (right_false (bytes_eq id r.id) (has_other id rs) h))
-
-not_true : (b : Bool) → not b ≡ true → b ≡ false
-not_true true h = absurd (true≢false (sym h))
-not_true false h = refl
-
-differ_filtered-by : (b : Bool) (r : Live) (rs : List Live) → has_other r.id rs ≡ false → differ rs ≡ true → differ (cond b (r ∷ rs) rs) ≡ true
-differ_filtered-by true r rs h g = both _ _ (not_false _ h) g
-differ_filtered-by false r rs h g = g
-
-differ_filtered : (p : Live → Bool) (live : List Live) → differ live ≡ true → differ (filter p live) ≡ true
-differ_filtered p [] h = refl
-differ_filtered p (r ∷ rs) h = differ_filtered-by (p r) r (filter p rs) (other_filtered r.id p rs (not_true (has_other r.id rs) (first_so _ _ h))) (differ_filtered p rs (second_so (not (has_other r.id rs)) _ h))
-
 -- and after a creation
 knowns_made : (name : List ℕ) (ss : List Settled) (live : List Live) (x : Live) → are_known name ss live ≡ true → is_known name ss x.id ≡ true → are_known name ss (live ++ x ∷ []) ≡ true
 knowns_made name ss [] x h g = both _ true g refl
 knowns_made name ss (r ∷ rs) x h g = both _ _ (first_so _ _ h) (knowns_made name ss rs x (second_so (is_known name ss r.id) _ h) g)
-
-other_made : (id : List ℕ) (live : List Live) (x : Live) → has_other id live ≡ false → bytes_eq id x.id ≡ false → has_other id (live ++ x ∷ []) ≡ false
-other_made id [] x h g = neither _ false g refl
-other_made id (r ∷ rs) x h g = neither _ _ (left_false (bytes_eq id r.id) (has_other id rs) h) (other_made id rs x (right_false (bytes_eq id r.id) (has_other id rs) h) g)
-
-differ_made : (name : List ℕ) (ss : List Settled) (live : List Live) (x : Live) → are_known name ss live ≡ true → is_known name ss x.id ≡ false → differ live ≡ true → differ (live ++ x ∷ []) ≡ true
-differ_made name ss [] x k u h = refl
-differ_made name ss (r ∷ rs) x k u h =
-    let unlike : bytes_eq r.id x.id ≡ false = not_both _ (λ b. true≢false (sym (first_so _ _ k) ∙ ap (is_known name ss) ((bytes_eq-Decides r.id x.id).0 b) ∙ u)) in
-    both _ _ (not_false _ (other_made r.id rs x (not_true (has_other r.id rs) (first_so _ _ h)) unlike)) (differ_made name ss rs x (second_so (is_known name ss r.id) _ k) u (second_so (not (has_other r.id rs)) _ h))
 
 -- attributes stay short
 shorts_made : (live : List Live) (x : Live) → are_short live ≡ true → nat_le (size_of_dict x.attrs) 524288 ≡ true → are_short (live ++ x ∷ []) ≡ true
@@ -364,7 +303,7 @@ fits_created g name ss token kind props n t k e v =
       may = ((decimal token, refl), omega (arith, id_short name token n t), none_succeeded name ss ss id k.sound new, size);
       kept = kept_from name ss x k (both _ _ (known_new name ss x t) (le-leb _ _ size))
           (knowns_made name (ss ++ x ∷ []) (live_of (lane_of ss)) made (knowns_still name ss x (live_of (lane_of ss)) k.known) (known_new name ss x t))
-          (differ_made name ss (live_of (lane_of ss)) made k.known new k.differ) (shorts_made (live_of (lane_of ss)) made k.short (le-leb _ _ size));
+          (differ_made (live_of (lane_of ss)) made (not_both _ (λ b. true≢false (sym (known_live name ss (live_of (lane_of ss)) made.id k.known b) ∙ new))) k.differ) (shorts_made (live_of (lane_of ss)) made k.short (le-leb _ _ size));
       short = ((decimal token, refl), omega (arith, id_short name token n t), size);
     }
 

@@ -1,4 +1,2 @@
-pub mod Changes
 pub mod Keeps
-pub mod Free
 pub mod Acting

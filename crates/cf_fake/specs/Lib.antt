@@ -1,6 +1,3 @@
-pub mod Table
-pub mod Live
-pub mod Noted
 pub mod Sound
 pub mod Refusable
 pub mod Plan

@@ -14,7 +14,7 @@ use Rattle.cf_fake.specs.declared.planned.Break.{Break}
 use Rattle.cf_fake.specs.declared.planned.Break.TheVariants.{Refuse, FaultBefore, FaultAfter, FaultLater, FenceFault}
 use Rattle.cf_fake.specs.declared.planned.Planned.{Planned}
 use Rattle.cf_fake.specs.Sound.{lane_of}
-use Rattle.cf_fake.specs.Table.{answer_to}
+use Rattle.cf_answers.specs.Table.{answer_to}
 
 abbrev pub is_fence_fault : Break → Bool
 is_fence_fault FenceFault = true

@@ -12,8 +12,8 @@ use Rattle.cf_handler.specs.Lane.{LaneState, Live, live_of}
 use Rattle.cf_handler.specs.declared.settled.Settlement.{Settlement}
 use Rattle.cf_handler.specs.declared.settled.Settlement.TheVariants.{Success, Failed}
 use Rattle.cf_handler.specs.declared.settled.Settled.{Settled}
-use Rattle.cf_fake.specs.Table.{id_of}
-use Rattle.cf_fake.specs.Live.{differ}
+use Rattle.cf_answers.specs.Table.{id_of}
+use Rattle.cf_answers.specs.Live.{differ}
 
 -- the id is that of a settled token
 abbrev pub is_made_by : List ℕ → List ℕ → Settled → Bool

@@ -5,7 +5,7 @@ ghost use Rattle.cf_handler.specs.Move.{MaySettle};
 ghost use Rattle.cf_handler.specs.Tells.{Lates};
 ghost use Rattle.cf_fake.specs.declared.waiting.Waiting.{Waiting};
 ghost use Rattle.cf_fake.specs.Sound.{lane_of};
-ghost use Rattle.cf_fake.specs.Table.{answer_to};
+ghost use Rattle.cf_answers.specs.Table.{answer_to};
 ghost use Rattle.cf_fake.specs.Plan.{new_entry};
 ghost use Rattle.cf_fake.specs.Late.{IsTurn, lane_at, late_settled, late_waiting, put_aside};
 

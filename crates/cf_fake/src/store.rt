@@ -1,25 +1,24 @@
 //! What a handler in memory keeps of its resources.
-ghost use Rattle.std.specs.Prelude.{◌≡◌, ℕ, [], ◌∷◌, ◌++◌, IsTrue, IfOk, IfSome, OnErr, Some, None, find};
+ghost use Rattle.std.specs.Prelude.{◌≡◌, ℕ, [], ◌∷◌, ◌++◌, IsTrue, IfOk, IfSome, OnErr, None, find};
 ghost use Rattle.std.specs.Coded.{Coded-set, coded_list};
 ghost use Rattle.cf_handler.specs.Lane.{settlement_of, live_changed, live_of};
 ghost use Rattle.cf_handler.specs.Look.{ShowsShort};
 ghost use Rattle.cf_handler.specs.Move.{LaneMove, MaySettle};
 ghost use Rattle.cf_handler.specs.Name.{is_lane_name};
 ghost use Rattle.cf_fake.specs.Codes.{live_code};
-ghost use Rattle.cf_fake.specs.Live.{live_as, lives, differ};
-ghost use Rattle.cf_fake.specs.Noted.{are_noted};
+ghost use Rattle.cf_answers.specs.Live.{lives, differ};
+ghost use Rattle.cf_answers.specs.Noted.{are_noted};
 ghost use Rattle.cf_fake.specs.Sound.{lane_of, AnswersInLane, IsSoundTable};
-ghost use Rattle.cf_fake.specs.Table.{answer_to, is_of_id, look_at};
+ghost use Rattle.cf_answers.specs.Table.{answer_to, is_of_id, look_at};
 ghost use Rattle.cf_fake.specs.Refusable.{may_break};
 ghost use Rattle.cf_fake.specs.Plan.{settled_by, told_by, IsWorked, new_entry};
 
-use crate::answer::{answer_to, found, told_by};
-use crate::live::{LiveResource, apply};
-use crate::noted::Noted;
 use crate::planned::Break;
+use crate::told::told_by;
+use cf_answers::{LiveResource, Noted, answer_to, apply, look_at};
 use cf_handler::{Settled, Settlement, settlement_of};
 use cf_schema::Schema;
-use cf_tree::{Answer, Code, Look, NoMemory, Request, Txt};
+use cf_tree::{Answer, Look, NoMemory, Request, Txt};
 use std::alloc::{AllocError, Global};
 
 /// The resources of a handler in memory, and the tokens that are settled.
@@ -64,15 +63,6 @@ fn keep(
     Ok(())
 }
 
-/// What is shown of a resource.
-fn shown(alloc: Global, resource: &LiveResource) -> Result<Look, AllocError>
-    ensures { IfOk result (λ l. l ≡ look_at (Some (live_as resource.now))) }
-{
-    let props = resource.props.try_clone(alloc)?;
-    let attrs = resource.attrs.try_clone(alloc)?;
-    Ok(Look::Found { props, attrs })
-}
-
 impl Store {
     /// One in which nothing is live or settled.
     pub fn new(alloc: Global, name: &str, schema: Schema) -> Result<Store, NoMemory>
@@ -101,12 +91,7 @@ impl Store {
         ensures value { IfOk result (λ l. l ≡ look_at (find (is_of_id id.now) (live_of (lane_of self.now.settled.items)))) }
         ensures limits { IfOk result ShowsShort }
     {
-        match found(self.live.as_slice(), id) {
-            Some(resource) => shown(self.alloc, resource),
-            None => Ok(Look::Failed {
-                code: Code::NotFound,
-            }),
-        }
+        look_at(self.alloc, self.live.as_slice(), id)
     }
 
     /// The live resources on which the answer to a request rests: none where it makes a new one that is surely none of them.

@@ -11,10 +11,13 @@ pub enum Stage {
     /// It is not open, or open without the lock.
     Closed,
 
-    /// This process has the exclusive lock, and nobody else changes the file. What is in it was not synced by this process.
+    /// This process has the exclusive lock, and nobody else changes the file. Nothing of it was synced by this process.
     Locked,
 
-    /// It was synced since, so a crash loses nothing of what was found in it.
+    /// Its folder was synced since, so a crash leaves the file there. What is in it was not synced by this process.
+    Placed,
+
+    /// It was synced too, so a crash loses nothing of what was found in it.
     Synced,
 
     /// A sync failed. What was written may be lost with no further error, so no more is asked of the file.
@@ -66,7 +69,8 @@ pub trait FileCalls {
 
     /// Syncs the folder of the file, so that a crash leaves the file there.
     fn sync_folder(&mut self) -> io::Result<()>
-        ensures stage { stage_of self.new ≡ stage_of self.old }
+        requires { stage_of self.old ≡ Stage.Locked }
+        ensures placed { OnOk result (stage_of self.new ≡ Stage.Placed) }
         ensures same { IsTrue tells → IsSame seen may_leave moment left_since self.old self.new };
 
     /// The length of the file in bytes.
@@ -116,7 +120,7 @@ pub trait FileCalls {
     /// Syncs the file. After it, a crash leaves what a read gives. After a first sync a read gives what the disk has, and
     /// nothing that an earlier process wrote and the disk lost.
     fn sync(&mut self) -> io::Result<()>
-        requires { (stage_of self.old ≡ Stage.Locked) ⊎ (stage_of self.old ≡ Stage.Synced) }
+        requires { (stage_of self.old ≡ Stage.Placed) ⊎ (stage_of self.old ≡ Stage.Synced) }
         ensures synced { OnOk result (stage_of self.new ≡ Stage.Synced) }
         ensures broken { OnErr result (stage_of self.new ≡ Stage.Broken) }
         ensures durable { OnOk result (IsTrue tells → Only (seen self.old) (may_leave self.new)) }

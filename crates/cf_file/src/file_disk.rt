@@ -51,10 +51,10 @@ fn unusable() -> io::Error {
     io::Error::other("not used before a sync of it succeeded, nor after one failed")
 }
 
-// Opens the file for this process alone.
+// Opens the file for this process alone, and syncs its folder.
 #[tactic(auto, using(crate::proofs::Steps::same_on))]
-fn open_locked<F: FileCalls>(file: &mut F) -> io::Result<()>
-    ensures locked { OnOk result (F.stage_of file.new ≡ Stage.Locked) }
+fn open_placed<F: FileCalls>(file: &mut F) -> io::Result<()>
+    ensures placed { OnOk result (F.stage_of file.new ≡ Stage.Placed) }
     ensures same { IsTrue F.tells → IsSame F.seen F.may_leave F.moment F.left_since file.old file.new }
 {
     file.open()?;
@@ -64,15 +64,15 @@ fn open_locked<F: FileCalls>(file: &mut F) -> io::Result<()>
     Err(io::Error::new(ErrorKind::WouldBlock, "another process has it open"))
 }
 
-// Opens the file for this process alone, unless that was done.
+// Opens the file for this process alone and syncs its folder, unless that was done.
 #[tactic(auto, using(crate::proofs::Steps::same_itself))]
 fn make_ready<F: FileCalls>(file: &mut F) -> io::Result<()>
-    ensures ready { OnOk result ((F.stage_of file.new ≡ Stage.Locked) ⊎ (F.stage_of file.new ≡ Stage.Synced)) }
+    ensures ready { OnOk result ((F.stage_of file.new ≡ Stage.Placed) ⊎ (F.stage_of file.new ≡ Stage.Synced)) }
     ensures same { IsTrue F.tells → IsSame F.seen F.may_leave F.moment F.left_since file.old file.new }
 {
     match file.stage() {
         Stage::Synced => Ok(()),
-        Stage::Closed | Stage::Locked => open_locked(file),
+        Stage::Closed | Stage::Locked | Stage::Placed => open_placed(file),
         Stage::Broken => Err(unusable()),
     }
 }

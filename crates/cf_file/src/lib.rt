@@ -5,8 +5,6 @@ mod calls;
 mod file_disk;
 mod memory_file;
 mod real_file;
-#[cfg(test)]
-mod tests;
 
 pub use calls::{FileCalls, Stage};
 pub use file_disk::FileDisk;

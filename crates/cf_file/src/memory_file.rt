@@ -78,6 +78,7 @@ impl FileCalls for MemoryFile {
     }
 
     fn sync_folder(&mut self) -> io::Result<()> {
+        self.stage = Stage::Placed;
         Ok(())
     }
 

@@ -135,7 +135,9 @@ impl<R: Files<File = File> + Eprint + Drop> FileCalls for RealFile<R> {
     }
 
     fn sync_folder(&mut self) -> io::Result<()> {
-        File::open(&self.rt, self.folder.as_str())?.sync_all()
+        File::open(&self.rt, self.folder.as_str())?.sync_all()?;
+        self.stage = Stage::Placed;
+        Ok(())
     }
 
     fn length(&mut self) -> io::Result<u64> {

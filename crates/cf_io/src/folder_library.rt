@@ -17,16 +17,18 @@ const MOST_BYTES: u64 = 1_073_741_824;
 /// A name that is empty, holds `/` or begins with `.` stands for no file. A folder that is not there counts as a
 /// failure, and so do a file over 1,073,741,824 bytes, what stands under a name and is no regular file (it is not
 /// opened), and each error of the system but two: one of kind `NotFound` for the file means that the folder has no such
-/// file, and one of kind `OutOfMemory` is want of memory. Each fetch looks at the folder and opens its file anew.
+/// file, and one of kind `OutOfMemory` is want of memory. A failure is told in one line on standard error, with the path
+/// and the system's words; where that can't be printed, nothing else changes. Each fetch looks at the folder and opens its
+/// file anew.
 #[derive(Drop)]
-pub struct FolderLibrary<R: Files + AllocGlobal + Drop> {
+pub struct FolderLibrary<R: Files + AllocGlobal + Eprint + Drop> {
     rt: R,
     folder: String,
     faults: u64,
     misses: u64,
 }
 
-impl<R: Files + AllocGlobal + Drop> FolderLibrary<R> {
+impl<R: Files + AllocGlobal + Eprint + Drop> FolderLibrary<R> {
     /// The library of this folder, which is not opened yet.
     pub fn new(rt: R, folder: String) -> FolderLibrary<R>
         ensures folder { folder_of result ≡ string_bytes folder }
@@ -52,8 +54,8 @@ impl<R: Files + AllocGlobal + Drop> FolderLibrary<R> {
         None
     }
 
-    // What an error of the system means.
-    fn failed(&mut self, error: &io::Error) -> FetchFault
+    // What an error of the system means. One that counts is told on standard error.
+    fn failed(&mut self, path: &str, error: &io::Error) -> FetchFault
         ensures cause { HasFetchCause self.old.faults self.new.faults (Err result) }
         ensures misses { self.new.misses ≡ self.old.misses }
         ensures folder { self.new.folder ≡ self.old.folder }
@@ -62,6 +64,7 @@ impl<R: Files + AllocGlobal + Drop> FolderLibrary<R> {
             return FetchFault::NoMemory;
         }
         self.faults = self.faults.saturating_add(1);
+        drop(eprintln!(self.rt; "cfstack: {path}: {error}"));
         FetchFault::Failed
     }
 }
@@ -132,7 +135,7 @@ fn find_file<R: Files + AllocGlobal>(
     }
 }
 
-impl<R: Files + AllocGlobal + Drop> Library for FolderLibrary<R> {
+impl<R: Files + AllocGlobal + Eprint + Drop> Library for FolderLibrary<R> {
     ghost count = { λ l. l.faults };
 
     ghost missed = { λ l. l.misses };
@@ -155,7 +158,7 @@ impl<R: Files + AllocGlobal + Drop> Library for FolderLibrary<R> {
         match find_file(&self.rt, self.folder.as_str(), path.as_str()) {
             Ok(Some(bytes)) => Ok(Some(bytes)),
             Ok(None) => Ok(self.missed()),
-            Err(error) => Err(self.failed(&error)),
+            Err(error) => Err(self.failed(path.as_str(), &error)),
         }
     }
 

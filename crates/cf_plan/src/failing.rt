@@ -1,14 +1,13 @@
 //! The outcome that fails the forward phase of an operation.
 ghost use Rattle.std.specs.Prelude.{◌≡◌, ◌==◌, ◌&&◌, [], find, is_some};
-ghost use Rattle.std.specs.List.{list_any};
 ghost use Rattle.std.specs.Option.{option_copied};
-ghost use Rattle.cf_effect.specs.Ahead.{is_setback};
 ghost use Rattle.cf_effect.specs.Calls.{call_under};
 ghost use Rattle.cf_effect.specs.Operation.{doubts_in};
 ghost use Rattle.cf_effect.specs.Words.{has_physical};
 ghost use Rattle.cf_plan.specs.Forward.{difference_to, doubting, first_failing, first_failing_behind, first_refusing, held_before, is_excused, is_refused_call, refusing};
 
 use crate::calls::{call_of, doubts_in, forward_of, now_of, up_to_last_turn};
+use cf_effect::has_setback;
 use cf_entry::{Entry, Reason, Reply};
 use cf_schema::{Difference, Schemas, differs};
 use cf_stacks::{HeardEntry, Held, StackState};
@@ -185,46 +184,6 @@ fn first_failing_now(
         }
     }
     None
-}
-
-/// Whether an entry is an outcome that is a refusal or a doubt.
-fn is_setback(entry: &Entry) -> bool
-    ensures { result ≡ is_setback entry.now }
-{
-    match entry {
-        Entry::Outcome {
-            number: _,
-            token: _,
-            answer,
-            before: _,
-            after: _,
-        } => !matches!(
-            answer,
-            Reply::Success {
-                physical: _,
-                attrs: _
-            }
-        ),
-        _ => false,
-    }
-}
-
-/// Whether an entry as the stack keeps it is an outcome that is a refusal or a doubt.
-#[tactic(auto, using(cf_effect::proofs::Setbacks::no_setback))]
-fn is_heard_setback(heard: &HeardEntry) -> bool
-    ensures { result ≡ is_setback heard.now }
-{
-    match heard.as_entry() {
-        Some(entry) => is_setback(entry),
-        None => false,
-    }
-}
-
-/// Whether one of these entries is an outcome that is a refusal or a doubt.
-fn has_setback(entries: &[HeardEntry]) -> bool
-    ensures { result ≡ list_any is_setback entries.now }
-{
-    entries.iter().any(is_heard_setback)
 }
 
 /// The first outcome that fails the forward phase, looked for among the entries of the phase.

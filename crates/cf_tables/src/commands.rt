@@ -28,6 +28,10 @@ fn command_text(told: &mut Told, command: &Command) {
         } => deployment(told, stack, template, given),
         Command::ContinueRollback { stack, paths } => continuation(told, stack, paths),
         Command::Resume { stack } => told.named("resume ", stack),
+        Command::Load { count } => {
+            told.put("load ");
+            told.number(*count as u64);
+        }
         Command::Describe { stack } => told.named("describe ", stack),
         Command::Events { stack } => told.named("events ", stack),
         Command::List => told.put("list"),

@@ -1,5 +1,5 @@
 -- What a deployment orders, from what was found in the library.
-use Rattle.std.proofs.Common.{◌≡◌, inl, inr, ℕ, List, Some, None, Result, Ok, Err, refl, sym, subst}
+use Rattle.std.proofs.Common.{◌≡◌, inl, inr, ℕ, Bool, cond, List, option_map, Some, None, Result, Ok, Err, refl, sym, ap, subst}
 use Rattle.cf_tree.specs.Counts.{HasRisen}
 use Rattle.cf_schema.specs.declared.described.Schema.{Schema}
 use Rattle.cf_io.specs.Library.{StandsUnder}
@@ -7,12 +7,15 @@ use Rattle.cf_desired.specs.declared.flaw.Flaw.TheVariants.{TemplateMissing}
 use Rattle.cf_effect.specs.World.{World}
 use Rattle.cf_prepare.specs.declared.wish.Order.{Order}
 use Rattle.cf_face.specs.declared.words.Choice.{Choice}
-use Rattle.cf_face.specs.declared.words.Task.TheVariants.{Deploy}
+use Rattle.cf_face.specs.Words.{load_choice, load_name}
+use Rattle.cf_face.specs.declared.words.Task.TheVariants.{Deploy, Load}
 use Rattle.cf_face.specs.declared.exit.Exit.{Exit}
 use Rattle.cf_face.specs.declared.exit.Exit.TheVariants as exit
 use Rattle.cf_face.specs.declared.exit.Refusal.TheVariants as refusal
-use Rattle.cf_top.specs.Refusals.{IsRefusedFor, LibraryUse, RefusesTemplate, TestsTemplate, deployed_source, deployment_refusal}
-use Rattle.cf_top.specs.Tasks.{FindsOrder, IsDeploymentOf, RefusesDeployment, status_refusal}
+use Rattle.cf_load.specs.Text.{load_text}
+use Rattle.cf_plan.proofs.Listed.{same_bytes}
+use Rattle.cf_top.specs.Refusals.{IsRefusedFor, IsUnasked, LibraryUse, RefusesTemplate, TestsTemplate, deployed_source, deployment_refusal}
+use Rattle.cf_top.specs.Tasks.{FindsOrder, IsDeploymentOf, RefusesDeployment, load_library, status_refusal}
 use Rattle.cf_top.proofs.Early.{asked}
 use Rattle.cf_top.proofs.Ordered.{deploys_prepared}
 use Rattle.cf_top.proofs.Tested.{told_or_short}
@@ -60,3 +63,14 @@ module _ (o : LibraryUse) (schemas : List Schema) (x : World) (stack : List ℕ)
         | inl t ↦ subst (IsRefusedFor o schemas x stack choice) (sym t) (None, st, refl, r)
         | inr t ↦ subst (IsRefusedFor o schemas x stack choice) (sym t) tt
       ])
+
+-- the template of the load mode stands under its name
+pub load_stands : (count : ℕ) → StandsUnder (load_library count).texts (load_name count) (Some (load_text count))
+load_stands count =
+    sym (ap (λ (b : Bool). option_map (λ (t : List ℕ × List ℕ). t.1) (cond b (Some (load_name count, load_text count)) None)) (same_bytes (load_name count)))
+
+-- what a load finds over its own library is all that it finds
+pub loaded : (o : LibraryUse) (schemas : List Schema) (x : World) (stack : List ℕ) → IsUnasked o → (count : ℕ) (result : Result Order Exit)
+    → FindsOrder (load_library count) schemas x stack (Deploy (load_choice count)) result → FindsOrder o schemas x stack (Load count) result
+loaded o schemas x stack unasked count (Ok ordered) f = ((f.0, unasked), f.1)
+loaded o schemas x stack unasked count (Err e) r = (r, unasked)

@@ -13,6 +13,7 @@ use Rattle.cf_prepare.specs.declared.wish.PrepareFault.TheVariants as fault
 use Rattle.cf_prepare.specs.declared.wish.Wish.{Wish}
 use Rattle.cf_prepare.specs.declared.wish.Wish.TheVariants as wish
 use Rattle.cf_face.specs.declared.words.Choice.{Choice}
+use Rattle.cf_face.specs.Words.{load_choice}
 use Rattle.cf_face.specs.declared.words.Task.{Task}
 use Rattle.cf_face.specs.declared.words.Task.TheVariants as task
 use Rattle.cf_face.specs.declared.exit.Exit.{Exit}
@@ -20,7 +21,7 @@ use Rattle.cf_face.specs.declared.exit.Exit.TheVariants as exit
 use Rattle.cf_face.specs.declared.exit.Refusal.TheVariants as refusal
 use Rattle.cf_top.specs.NotYet.{is_not_yet}
 use Rattle.cf_top.specs.Refusals.{IsRefusedFor, LibraryUse, deployed_source, deployment_refusal, exit_of_fault, template_refusal}
-use Rattle.cf_top.specs.Tasks.{RefusesDeployment, RefusesTask, RefusesWish, status_refusal}
+use Rattle.cf_top.specs.Tasks.{RefusesDeployment, RefusesTask, RefusesWish, load_library, status_refusal}
 
 -- the exits of what is asked for
 abbrev pub IsAsked : Exit → Type 0
@@ -103,11 +104,13 @@ module _ (o : LibraryUse) (schemas : List Schema) (x : World) (name : List ℕ) 
   early_wish : (w : Wish) (e : Exit) → RefusesWish schemas x w e → RefusesEarly e
   early_wish w e (f, prepares, q) = subst RefusesEarly (sym q) (asked_early (exit_of_fault f) (asked_fault f))
 
-  -- a task is refused by nothing else
+-- a task is refused by nothing else
+module _ (o : LibraryUse) (schemas : List Schema) (x : World) (name : List ℕ) where
   pub early : (t : Task) (e : Exit) → RefusesTask o schemas x name t e → RefusesEarly e
-  early (task.Deploy choice) e r = early_by choice e (status_refusal name x) refl r
-  early (task.Continue paths) e r = early_wish (wish.Continue name paths) e r.0
-  early task.Resume e r = early_wish (wish.Resume name) e r.0
+  early (task.Deploy choice) e r = early_by o schemas x name choice e (status_refusal name x) refl r
+  early (task.Continue paths) e r = early_wish o schemas x name (wish.Continue name paths) e r.0
+  early task.Resume e r = early_wish o schemas x name (wish.Resume name) e r.0
+  early (task.Load count) e r = early_by (load_library count) schemas x name (load_choice count) e (status_refusal name x) refl r.0
 
   pub never_refused : (t : Task) (lane : List ℕ) (fence epoch : ℕ) → RefusesTask o schemas x name t (exit.LaneAhead lane fence epoch) → ⊥
   never_refused t lane fence epoch r = early t (exit.LaneAhead lane fence epoch) r

@@ -157,10 +157,10 @@ module _ {D H : Type 0} (g : DiskGhosts D) (h : HandlerGhosts H) where
     came name t (Err e) (inr (entered, ended, was), none) =
         done e name t entered ended (Err e) was (same_lanes g m.library entered ended name t e was.does)
 
-    comes_to : (words : List (List ℕ)) (stack : List ℕ) (outcome : Result StackState Exit) → Comes g h m words stack outcome → AreIntended (outcome_exit outcome)
-    comes_to words stack outcome (inl (q, none, touched)) = untouched (outcome_exit outcome) touched.1
-    comes_to words stack outcome (inr (inl (q, touched))) = untouched (outcome_exit outcome) touched.1
-    comes_to words stack outcome (inr (inr (t, said, did))) = came stack t outcome did
+    comes_to : (words : List (List ℕ)) (stack : List ℕ) (t : Task) (outcome : Result StackState Exit) → Comes g h m words stack t outcome → AreIntended (outcome_exit outcome)
+    comes_to words stack t outcome (inl (q, none, touched)) = untouched (outcome_exit outcome) touched.1
+    comes_to words stack t outcome (inr (inl (q, touched))) = untouched (outcome_exit outcome) touched.1
+    comes_to words stack t outcome (inr (inr (said, did))) = came stack t outcome did
 
     -- another exit, after which a lane may have been called
     told_as : (x y : Exit) → (CallsNoLane y → ⊥) → AreIntended x → AreIntended y
@@ -179,11 +179,11 @@ module _ {D H : Type 0} (g : DiskGhosts D) (h : HandlerGhosts H) where
 
     pub intended_alone : (p : Printing) (words : List (List ℕ)) (result : Exit) → AloneTells g h m p words result
         → CallsAreIntended g h m.disk m.disk' m.handlers m.handlers' result
-    intended_alone p words result (stack, outcome, comes, printed) = by printed where
+    intended_alone p words result (stack, t, outcome, comes, printed) = by printed where
       all : AreIntended (outcome_exit outcome)
-      all = comes_to words stack outcome comes
+      all = comes_to words stack t outcome comes
 
-      by : Printed p stack outcome result → AreIntended result
+      by : Printed p stack t outcome result → AreIntended result
       by (inl (is, a)) = subst AreIntended (sym is) all
       by (inr (inl (is, rose, a))) = told_as (outcome_exit outcome) result (λ q. subst CallsNoLane is q) all
       by (inr (inr (is, a))) = told_as (outcome_exit outcome) result (λ q. subst CallsNoLane is q) all

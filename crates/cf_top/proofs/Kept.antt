@@ -197,10 +197,10 @@ module _ {D H : Type 0} (g : DiskGhosts D) (h : HandlerGhosts H) where
         certain_of : HasEntered g h m entered → entered.doubt ≡ None
         certain_of (es, over, enters, known, room, opens) = enters.certain
 
-  kept_comes : (m : Outside D H) (words : List (List ℕ)) (stack : List ℕ) (outcome : Result StackState Exit) → Comes g h m words stack outcome → IsKept m (outcome_exit outcome)
-  kept_comes m words stack outcome (inl (q, none, touched)) = kept_nothing m (outcome_exit outcome) touched.0 touched.1
-  kept_comes m words stack outcome (inr (inl (q, touched))) = kept_nothing m (outcome_exit outcome) touched.0 touched.1
-  kept_comes m words stack outcome (inr (inr (t, said, came))) = kept_came m stack t outcome came
+  kept_comes : (m : Outside D H) (words : List (List ℕ)) (stack : List ℕ) (t : Task) (outcome : Result StackState Exit) → Comes g h m words stack t outcome → IsKept m (outcome_exit outcome)
+  kept_comes m words stack t outcome (inl (q, none, touched)) = kept_nothing m (outcome_exit outcome) touched.0 touched.1
+  kept_comes m words stack t outcome (inr (inl (q, touched))) = kept_nothing m (outcome_exit outcome) touched.0 touched.1
+  kept_comes m words stack t outcome (inr (inr (said, came))) = kept_came m stack t outcome came
 
   -- what could not be printed may hide a fault of the disk
   doubtful : (m : Outside D H) (e x : Exit) → MayDoubt x → IsKept m e → IsKept m x
@@ -219,11 +219,11 @@ module _ {D H : Type 0} (g : DiskGhosts D) (h : HandlerGhosts H) where
     })
 
   pub kept_alone : (m : Outside D H) (p : Printing) (words : List (List ℕ)) (result : Exit) → AloneTells g h m p words result → IsKept m result
-  kept_alone m p words result (stack, outcome, comes, printed) = by printed where
+  kept_alone m p words result (stack, t, outcome, comes, printed) = by printed where
     k : IsKept m (outcome_exit outcome)
-    k = kept_comes m words stack outcome comes
+    k = kept_comes m words stack t outcome comes
 
-    by : Printed p stack outcome result → IsKept m result
+    by : Printed p stack t outcome result → IsKept m result
     by (inl (is, a)) = subst (IsKept m) (sym is) k
     by (inr (inl (is, rose, a))) = doubtful m (outcome_exit outcome) result (subst MayDoubt (sym is) tt) k
     by (inr (inr (is, a))) = doubtful m (outcome_exit outcome) result (subst MayDoubt (sym is) tt) k
@@ -240,8 +240,8 @@ module _ {D H : Type 0} (g : DiskGhosts D) (h : HandlerGhosts H) where
   kept_says m p words (exit.RolledBack cause) s = kept_over m p words (exit.RolledBack cause) s
   kept_says m p words (exit.Failed blamed) s = kept_over m p words (exit.Failed blamed) s
   kept_says m p words exit.BadWords s = let k = kept_nothing m exit.BadWords (s.1).0 (s.1).1 in (k.same, k.agrees)
-  kept_says m p words exit.SinkFault s = let c = s.1 in let k = kept_comes m words c.stack c.outcome c.comes in (k.same, k.agrees)
-  kept_says m p words exit.NoMemory s = let k = kept_comes m words s.stack s.outcome s.comes in (k.same, k.agrees)
+  kept_says m p words exit.SinkFault s = let c = s.1 in let k = kept_comes m words c.stack c.what c.outcome c.comes in (k.same, k.agrees)
+  kept_says m p words exit.NoMemory s = let k = kept_comes m words s.stack s.what s.outcome s.comes in (k.same, k.agrees)
   kept_says m p words (exit.TemplateRefused fault) s = kept_early m p words (exit.TemplateRefused fault) s
   kept_says m p words (exit.StackRefused fault) s = kept_early m p words (exit.StackRefused fault) s
   kept_says m p words exit.LibraryFault s = kept_early m p words exit.LibraryFault s

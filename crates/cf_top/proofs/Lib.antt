@@ -5,6 +5,7 @@ pub mod Ordered
 pub mod GoingOn
 pub mod Finding
 pub mod Deployed
+pub mod Loading
 pub mod Carried
 pub mod Histories
 pub mod Kept

@@ -49,6 +49,7 @@ use Rattle.cf_book.specs.declared.refused.EnterFault.TheVariants as fault
 use Rattle.cf_book.specs.declared.stop.StopFault.{StopFault}
 use Rattle.cf_book.specs.declared.stop.StopFault.TheVariants as stop
 use Rattle.cf_face.specs.declared.words.Choice.{Choice}
+use Rattle.cf_face.specs.Words.{load_choice}
 use Rattle.cf_face.specs.declared.words.Task.{Task}
 use Rattle.cf_face.specs.declared.words.Task.TheVariants as task
 use Rattle.cf_face.specs.declared.exit.Exit.{Exit}
@@ -60,7 +61,7 @@ use Rattle.cf_workers.proofs.Agreeing.{rest_differs}
 use Rattle.cf_workers.proofs.Commanded.{named_as, same_names_now}
 use Rattle.cf_workers.proofs.Along.{same_entered}
 use Rattle.cf_workers.proofs.Wrote.{schemas_same}
-use Rattle.cf_top.specs.Alone.{AloneTells, Comes, ComesBefore, EndsEarly, IsAnswered, IsCutShort, IsExitOf, IsRefusal, IsRefusedAs, IsRefusedOver, NoCountRose, RoseAt, Says, counts_of, opened_world}
+use Rattle.cf_top.specs.Alone.{AloneTells, Comes, ComesBefore, EndsEarly, IsAnswered, IsCutShort, IsDeploymentRefused, IsExitOf, IsRefusal, IsRefusedAs, IsRefusedOver, NoCountRose, RoseAt, Says, counts_of, opened_world}
 use Rattle.cf_top.specs.Crash.{Lasts, LastsWhereOver}
 use Rattle.cf_top.specs.Ends.{BlamesNoCall, CallFailed, CountsWithin, EndsWithoutFailure, FailedAt, FailedBy, HadCause, HasEnded, IsNoFailure, IsUntold, TurnedBefore, TurnedNow}
 use Rattle.cf_top.specs.Opening.{enter_exit}
@@ -68,7 +69,7 @@ use Rattle.cf_top.specs.Outside.{CameTo, HasEntered, IsClosed, Outside, Printed,
 use Rattle.cf_top.specs.Performed.{DoesTask, ExitsFor}
 use Rattle.cf_workers.specs.Ordering.{schemas_in, number_of}
 use Rattle.cf_top.specs.Refusals.{IsRefusedFor, LibraryUse, deployment_refusal, exit_of_fault}
-use Rattle.cf_top.specs.Tasks.{OrdersTask, RefusesDeployment, RefusesTask, status_refusal, task_words}
+use Rattle.cf_top.specs.Tasks.{DeploysBy, OrdersTask, RefusesDeployment, RefusesTask, load_library, status_refusal, task_words}
 use Rattle.cf_top.specs.Telling.{exit_by, exit_for, outcome_exit, outcome_text}
 use Rattle.cf_top.proofs.Course.{has_run}
 use Rattle.cf_top.proofs.Early.{IsAsked, RefusesEarly, asked_fault, asked_option, early}
@@ -136,18 +137,19 @@ module _ {D H : Type 0} (g : DiskGhosts D) (h : HandlerGhosts H) where
     by (inr (ordered, is, (f, exits, what))) = early_stopped ended.lanes f e exits
 
   -- a text that was printed whole is a prefix of itself
-  cut_whole : (m : Outside D H) (p : Printing) (words : List (List ℕ)) (stack : List ℕ) (outcome : Result StackState Exit) → Comes g h m words stack outcome
-      → Appends p.held p.held' (outcome_text stack outcome) → IsCutShort g h m p words
-  cut_whole m p words stack outcome c a = record {
+  cut_whole : (m : Outside D H) (p : Printing) (words : List (List ℕ)) (stack : List ℕ) (t : Task) (outcome : Result StackState Exit) → Comes g h m words stack t outcome
+      → Appends p.held p.held' (outcome_text stack t outcome) → IsCutShort g h m p words
+  cut_whole m p words stack t outcome c a = record {
     stack = stack;
+    what = t;
     outcome = outcome;
-    length = length (outcome_text stack outcome);
+    length = length (outcome_text stack t outcome);
     comes = c;
-    printed = subst (Appends p.held p.held') (sym (take-length (outcome_text stack outcome))) a;
+    printed = subst (Appends p.held p.held') (sym (take-length (outcome_text stack t outcome))) a;
   }
 
   done_says : Stays g → (m : Outside D H) (p : Printing) (words : List (List ℕ)) (name : List ℕ) (t : Task) (st : StackState) → task_words words ≡ Some (name, t)
-      → CameTo g h m name t (Ok st) → Appends p.held p.held' (outcome_text name (Ok st)) → HasEnded g h m p words (exit_for st)
+      → CameTo g h m name t (Ok st) → Appends p.held p.held' (outcome_text name t (Ok st)) → HasEnded g h m p words (exit_for st)
   done_says stay m p words name t st said (entered, ended, state, w, left, lasts) a = by w.enters w.closes where
     by : HasEntered g h m entered → IsClosed g h m ended → HasEnded g h m p words (exit_for st)
     by (es0, over, enters, known, room, opens) closes =
@@ -190,13 +192,13 @@ module _ {D H : Type 0} (g : DiskGhosts D) (h : HandlerGhosts H) where
   says_ended m p words st _ d = d
 
   ended_says : (m : Outside D H) (p : Printing) (words : List (List ℕ)) (name : List ℕ) (t : Task) (e : Exit) → task_words words ≡ Some (name, t) → CameTo g h m name t (Err e)
-      → Appends p.held p.held' (outcome_text name (Err e)) → Says g h m p words e
+      → Appends p.held p.held' (outcome_text name t (Err e)) → Says g h m p words e
   ended_says m p words name t exit.Done s r a = absurd (early_came m name t exit.Done r)
   ended_says m p words name t exit.BadWords s r a = absurd (early_came m name t exit.BadWords r)
   ended_says m p words name t exit.SinkFault s r a = absurd (early_came m name t exit.SinkFault r)
   ended_says m p words name t exit.LibraryFault s r a = record { name = name; what = t; said = s; ran = r; printed = a }
   ended_says m p words name t exit.DiskFault s r a = record { name = name; what = t; said = s; ran = r; printed = a }
-  ended_says m p words name t exit.NoMemory s r a = cut_whole m p words name (Err exit.NoMemory) (inr (inr (t, s, r))) a
+  ended_says m p words name t exit.NoMemory s r a = cut_whole m p words name t (Err exit.NoMemory) (inr (inr (s, r))) a
   ended_says m p words name t (exit.TemplateRefused f) s r a = record { name = name; what = t; said = s; ran = r; printed = a }
   ended_says m p words name t (exit.StackRefused f) s r a = record { name = name; what = t; said = s; ran = r; printed = a }
   ended_says m p words name t (exit.RolledBack c) s r a = absurd (early_came m name t (exit.RolledBack c) r)
@@ -209,25 +211,25 @@ module _ {D H : Type 0} (g : DiskGhosts D) (h : HandlerGhosts H) where
   ended_says m p words name t (exit.Full long need room) s r a = record { name = name; what = t; said = s; ran = r; printed = a }
 
   task_says : Stays g → (m : Outside D H) (p : Printing) (words : List (List ℕ)) (name : List ℕ) (t : Task) (outcome : Result StackState Exit) → task_words words ≡ Some (name, t)
-      → CameTo g h m name t outcome → Appends p.held p.held' (outcome_text name outcome) → Says g h m p words (outcome_exit outcome)
+      → CameTo g h m name t outcome → Appends p.held p.held' (outcome_text name t outcome) → Says g h m p words (outcome_exit outcome)
   task_says stay m p words name t (Ok st) s r a = says_ended m p words st st.status (done_says stay m p words name t st s r a)
   task_says stay m p words name t (Err e) s r a = ended_says m p words name t e s r a
 
-  said_by : Stays g → (m : Outside D H) (p : Printing) (words : List (List ℕ)) (stack : List ℕ) (outcome : Result StackState Exit) → Comes g h m words stack outcome
-      → Appends p.held p.held' (outcome_text stack outcome) → Says g h m p words (outcome_exit outcome)
-  said_by stay m p words stack outcome (inl (q, n, u)) a =
-      subst (λ (x : Result StackState Exit). Says g h m p words (outcome_exit x)) (sym q) (n, u, subst (λ (x : Result StackState Exit). Appends p.held p.held' (outcome_text stack x)) q a)
-  said_by stay m p words stack outcome (inr (inl (q, u))) a =
-      subst (λ (x : Result StackState Exit). Says g h m p words (outcome_exit x)) (sym q) (cut_whole m p words stack outcome (inr (inl (q, u))) a)
-  said_by stay m p words stack outcome (inr (inr (t, s, r))) a = task_says stay m p words stack t outcome s r a
+  said_by : Stays g → (m : Outside D H) (p : Printing) (words : List (List ℕ)) (stack : List ℕ) (t : Task) (outcome : Result StackState Exit) → Comes g h m words stack t outcome
+      → Appends p.held p.held' (outcome_text stack t outcome) → Says g h m p words (outcome_exit outcome)
+  said_by stay m p words stack t outcome (inl (q, n, u)) a =
+      subst (λ (x : Result StackState Exit). Says g h m p words (outcome_exit x)) (sym q) (n, u, subst (λ (x : Result StackState Exit). Appends p.held p.held' (outcome_text stack t x)) q a)
+  said_by stay m p words stack t outcome (inr (inl (q, u))) a =
+      subst (λ (x : Result StackState Exit). Says g h m p words (outcome_exit x)) (sym q) (cut_whole m p words stack t outcome (inr (inl (q, u))) a)
+  said_by stay m p words stack t outcome (inr (inr (s, r))) a = task_says stay m p words stack t outcome s r a
 
-  pub printed_says : Stays g → (m : Outside D H) (p : Printing) (words : List (List ℕ)) (result : Exit) (stack : List ℕ) (outcome : Result StackState Exit) → Comes g h m words stack outcome
-      → Printed p stack outcome result → Says g h m p words result
-  printed_says stay m p words result stack outcome c (inl (e, a)) = subst (Says g h m p words) (sym e) (said_by stay m p words stack outcome c a)
-  printed_says stay m p words result stack outcome c (inr (inl (e, r, a))) =
-      subst (Says g h m p words) (sym e) (r, record { stack = stack; outcome = outcome; length = a.0; comes = c; printed = a.1 })
-  printed_says stay m p words result stack outcome c (inr (inr (e, a))) =
-      subst (Says g h m p words) (sym e) (record { stack = stack; outcome = outcome; length = a.0; comes = c; printed = a.1 })
+  pub printed_says : Stays g → (m : Outside D H) (p : Printing) (words : List (List ℕ)) (result : Exit) (stack : List ℕ) (t : Task) (outcome : Result StackState Exit) → Comes g h m words stack t outcome
+      → Printed p stack t outcome result → Says g h m p words result
+  printed_says stay m p words result stack t outcome c (inl (e, a)) = subst (Says g h m p words) (sym e) (said_by stay m p words stack t outcome c a)
+  printed_says stay m p words result stack t outcome c (inr (inl (e, r, a))) =
+      subst (Says g h m p words) (sym e) (r, record { stack = stack; what = t; outcome = outcome; length = a.0; comes = c; printed = a.1 })
+  printed_says stay m p words result stack t outcome c (inr (inr (e, a))) =
+      subst (Says g h m p words) (sym e) (record { stack = stack; what = t; outcome = outcome; length = a.0; comes = c; printed = a.1 })
 
   no_words : (words : List (List ℕ)) (said : List ℕ × Task) → task_words words ≡ Some said → task_words words ≡ None → ⊥
   no_words words said s n = some≢none said (sym s ∙ n)
@@ -269,17 +271,17 @@ module _ {D H : Type 0} (g : DiskGhosts D) (h : HandlerGhosts H) where
   lasts_came m name t (Ok st) (entered, ended, state, w, left, lasts) = lasts_ever g.tells (g.seen m.disk') (g.may_leave m.disk') (exit_for st) lasts
   lasts_came m name t (Err e) r = early_lasts e g.tells (g.seen m.disk') (g.may_leave m.disk') (early_came m name t e r)
 
-  lasts_comes : (m : Outside D H) (words : List (List ℕ)) (stack : List ℕ) (outcome : Result StackState Exit) → Comes g h m words stack outcome
+  lasts_comes : (m : Outside D H) (words : List (List ℕ)) (stack : List ℕ) (t : Task) (outcome : Result StackState Exit) → Comes g h m words stack t outcome
       → LastsWhereOver (outcome_exit outcome) g.tells (g.seen m.disk') (g.may_leave m.disk')
-  lasts_comes m words stack outcome (inl (q, n, u)) = subst (λ (x : Result StackState Exit). LastsWhereOver (outcome_exit x) g.tells (g.seen m.disk') (g.may_leave m.disk')) (sym q) tt
-  lasts_comes m words stack outcome (inr (inl (q, u))) = subst (λ (x : Result StackState Exit). LastsWhereOver (outcome_exit x) g.tells (g.seen m.disk') (g.may_leave m.disk')) (sym q) tt
-  lasts_comes m words stack outcome (inr (inr (t, s, r))) = lasts_came m stack t outcome r
+  lasts_comes m words stack t outcome (inl (q, n, u)) = subst (λ (x : Result StackState Exit). LastsWhereOver (outcome_exit x) g.tells (g.seen m.disk') (g.may_leave m.disk')) (sym q) tt
+  lasts_comes m words stack t outcome (inr (inl (q, u))) = subst (λ (x : Result StackState Exit). LastsWhereOver (outcome_exit x) g.tells (g.seen m.disk') (g.may_leave m.disk')) (sym q) tt
+  lasts_comes m words stack t outcome (inr (inr (s, r))) = lasts_came m stack t outcome r
 
   pub lasts_alone : (m : Outside D H) (p : Printing) (words : List (List ℕ)) (result : Exit) → AloneTells g h m p words result
       → LastsWhereOver result g.tells (g.seen m.disk') (g.may_leave m.disk')
-  lasts_alone m p words result (stack, outcome, comes, printed) = by printed where
-    by : Printed p stack outcome result → LastsWhereOver result g.tells (g.seen m.disk') (g.may_leave m.disk')
-    by (inl (e, a)) = subst (λ (x : Exit). LastsWhereOver x g.tells (g.seen m.disk') (g.may_leave m.disk')) (sym e) (lasts_comes m words stack outcome comes)
+  lasts_alone m p words result (stack, t, outcome, comes, printed) = by printed where
+    by : Printed p stack t outcome result → LastsWhereOver result g.tells (g.seen m.disk') (g.may_leave m.disk')
+    by (inl (e, a)) = subst (λ (x : Exit). LastsWhereOver x g.tells (g.seen m.disk') (g.may_leave m.disk')) (sym e) (lasts_comes m words stack t outcome comes)
     by (inr (inl (e, r, a))) = subst (λ (x : Exit). LastsWhereOver x g.tells (g.seen m.disk') (g.may_leave m.disk')) (sym e) tt
     by (inr (inr (e, a))) = subst (λ (x : Exit). LastsWhereOver x g.tells (g.seen m.disk') (g.may_leave m.disk')) (sym e) tt
 
@@ -319,15 +321,10 @@ module _ (o : LibraryUse) (schemas : List Schema) (x : World) (name : List ℕ) 
   resumes_not (exit.LaneFault lane) r = inl r
   resumes_not (exit.Full long need room) r = inl r
 
-  never_ordered : (t : Task) (e : Exit) → IsRefusedAs o.texts schemas x name t e → (ordered : Order) → OrdersTask o schemas x name t ordered → ⊥
-  never_ordered (task.Deploy choice) e (inl q) ordered d = some≢none e (sym q ∙ d.free)
-  never_ordered (task.Deploy choice) e (inr (free, texts, told, q)) ordered d =
+  never_deployed : (choice : Choice) (e : Exit) → IsDeploymentRefused o.texts schemas x name choice e → (ordered : Order) → DeploysBy o schemas x name choice ordered → ⊥
+  never_deployed choice e (inl q) ordered d = some≢none e (sym q ∙ d.free)
+  never_deployed choice e (inr (free, texts, told, q)) ordered d =
       some≢none e (sym q ∙ ap (deployment_refusal schemas x name choice) (sym (found_is choice texts (Some d.bytes) told d.stands)) ∙ d.sound)
-  never_ordered (task.Continue paths) e r ordered d = not_refused (continue_refusal x name paths) e d.0 r
-  never_ordered task.Resume e r ordered d = by (resumes_not e r) where
-    by : ResumesNot e → ⊥
-    by (inl q) = not_refused (resume_refusal x name) e ((d.0).0) q
-    by (inr (path, kind, is, free, (w, stuck, at, sort, least))) = (d.0).1 w stuck
 
   -- a test that refuses does so for its reason, or for want of memory
   tests_so : (P : Order → Type 0) (w : Option PrepareFault) (f : PrepareFault) → TestsAs w P (Err f) → (w ≡ Some f) ⊎ (f ≡ prepare.NoMemory)
@@ -363,7 +360,7 @@ module _ (o : LibraryUse) (schemas : List Schema) (x : World) (name : List ℕ) 
   found_refused choice texts e (exit.LaneFault lane) told q r = inl (some_inside (exit.LaneFault lane) e (sym r.2 ∙ ap (deployment_refusal schemas x name choice) (found_is choice texts r.0 told r.1) ∙ q))
   found_refused choice texts e (exit.Full long need room) told q r = inl (some_inside (exit.Full long need room) e (sym r.2 ∙ ap (deployment_refusal schemas x name choice) (found_is choice texts r.0 told r.1) ∙ q))
 
-  deploy_refused : (choice : Choice) (e y : Exit) (bars : Option Exit) → status_refusal name x ≡ bars → IsRefusedAs o.texts schemas x name (task.Deploy choice) e
+  deploy_refused : (choice : Choice) (e y : Exit) (bars : Option Exit) → status_refusal name x ≡ bars → IsDeploymentRefused o.texts schemas x name choice e
       → RefusesDeployment o schemas x name choice bars y → IsForetold e y
   deploy_refused choice e y None is (inl q) r = absurd (some≢none e (sym q ∙ is))
   deploy_refused choice e y None is (inr (free, texts, told, q)) r = found_refused choice texts e y told q r
@@ -381,19 +378,38 @@ module _ (o : LibraryUse) (schemas : List Schema) (x : World) (name : List ℕ) 
   resume_same (prepare.Stack f) e y (inl q) p is = wish_same (resume_refusal x name) (prepare.Stack f) e y q is (inl p)
   resume_same (prepare.Stack f) e y (inr (other, sort, same, none, least)) p is = absurd (some≢none (prepare.Stack f) (sym p ∙ none))
 
-  foretold : (t : Task) (e y : Exit) → IsRefusedAs o.texts schemas x name t e → RefusesTask o schemas x name t y → IsForetold e y
-  foretold (task.Deploy choice) e y r q = deploy_refused choice e y (status_refusal name x) refl r q
-  foretold (task.Continue paths) e y r ((f, prepares, is), unasked) = wish_same (continue_refusal x name paths) f e y r is (tests_so (IsContinuation x name paths) (continue_refusal x name paths) f prepares)
-  foretold task.Resume e y r ((f, prepares, is), unasked) = resume_same f e y (resumes_not e r) prepares is
+  deploy_told : (choice : Choice) (bars : Option Exit) → status_refusal name x ≡ bars → RefusesDeployment o schemas x name choice bars exit.LibraryFault → HasRisen o.faults o.faults'
+  deploy_told choice None is q = q
+  deploy_told choice (Some bar) is q = absurd (subst IsAsked (sym q.0) (asked_option _ bar is))
+
+-- a library whose count stayed did not fail
+never_rose : HasRisen 0 0 → ⊥
+never_rose rose = let more = rose (omega arith) in omega (arith, more)
+
+-- so it is with each task; a load is a deployment over a library of its own
+module _ (o : LibraryUse) (schemas : List Schema) (x : World) (name : List ℕ) where
+  never_ordered : (t : Task) (e : Exit) → IsRefusedAs o.texts schemas x name t e → (ordered : Order) → OrdersTask o schemas x name t ordered → ⊥
+  never_ordered (task.Deploy choice) e r ordered d = never_deployed o schemas x name choice e r ordered d
+  never_ordered (task.Continue paths) e r ordered d = not_refused o schemas x name (continue_refusal x name paths) e d.0 r
+  never_ordered task.Resume e r ordered d = by (resumes_not o schemas x name e r) where
+    by : ResumesNot o schemas x name e → ⊥
+    by (inl q) = not_refused o schemas x name (resume_refusal x name) e ((d.0).0) q
+    by (inr (path, kind, is, free, (w, stuck, at, sort, least))) = (d.0).1 w stuck
+  never_ordered (task.Load count) e r ordered d = never_deployed (load_library count) schemas x name (load_choice count) e r ordered d.0
+
+  foretold : (t : Task) (e y : Exit) → IsRefusedAs o.texts schemas x name t e → RefusesTask o schemas x name t y → IsForetold o schemas x name e y
+  foretold (task.Deploy choice) e y r q = deploy_refused o schemas x name choice e y (status_refusal name x) refl r q
+  foretold (task.Continue paths) e y r ((f, prepares, is), unasked) =
+      wish_same o schemas x name (continue_refusal x name paths) f e y r is (tests_so o schemas x name (IsContinuation x name paths) (continue_refusal x name paths) f prepares)
+  foretold task.Resume e y r ((f, prepares, is), unasked) = resume_same o schemas x name f e y (resumes_not o schemas x name e r) prepares is
+  foretold (task.Load count) e y r q = deploy_refused (load_library count) schemas x name (load_choice count) e y (status_refusal name x) refl r q.0
 
   -- a library is at fault only in a deployment, where its count rose
   library_told : (t : Task) → RefusesTask o schemas x name t exit.LibraryFault → HasRisen o.faults o.faults'
-  library_told (task.Deploy choice) r = by (status_refusal name x) refl r where
-    by : (bars : Option Exit) → status_refusal name x ≡ bars → RefusesDeployment o schemas x name choice bars exit.LibraryFault → HasRisen o.faults o.faults'
-    by None is q = q
-    by (Some bar) is q = absurd (subst IsAsked (sym q.0) (asked_option _ bar is))
+  library_told (task.Deploy choice) r = deploy_told o schemas x name choice (status_refusal name x) refl r
   library_told (task.Continue paths) ((f, prepares, is), unasked) = absurd (subst IsAsked (sym is) (asked_fault f))
   library_told task.Resume ((f, prepares, is), unasked) = absurd (subst IsAsked (sym is) (asked_fault f))
+  library_told (task.Load count) r = absurd (never_rose (deploy_told (load_library count) schemas x name (load_choice count) (status_refusal name x) refl r.0))
 
 before_refused : (f : EnterFault) → ComesBefore (enter_exit f)
 before_refused (fault.NotAJournal offset) = tt
@@ -734,7 +750,7 @@ module _ {D H : Type 0} (g : DiskGhosts D) (h : HandlerGhosts H) (stay : Stays g
 
   pub answers_of : (result : Exit) → AloneTells g h m p words result → IsAnswered g h m p words result
   answers_of result t =
-      let s : Says g h m p words result = printed_says g h stay m p words result t.0 t.1 t.2 t.3 in
+      let s : Says g h m p words result = printed_says g h stay m p words result t.0 t.1 t.2 t.3 t.4 in
       let same : map named_as (handed_in h m.handlers') ≡ map named_as (handed_in h m.handlers) = (kept_alone g h m p words result t).same in
       record {
         says = s;

@@ -76,6 +76,7 @@ pub numbered_as : (u : LibraryUse) (schemas : List Schema) (x : World) (name : L
 numbered_as u schemas x name (task.Deploy choice) o d = let (written, w, q) = d.deploys in ap number_of q
 numbered_as u schemas x name (task.Continue paths) o d = let (sorted, is, q) = d.1 in ap number_of q
 numbered_as u schemas x name task.Resume o d = ap number_of (d.0).2
+numbered_as u schemas x name (task.Load count) o d = let (written, w, q) = (d.0).deploys in ap number_of q
 
 -- the templates of a source whose one text was read
 pub one_template :

@@ -48,7 +48,7 @@ leaves_stack g o book ended name t status st does has rest there =
 -- a task over a book, all of it
 pub does_over : {D H : Type 0} (g : DiskGhosts D) (h : HandlerGhosts H) (o : LibraryUse) (p : Printing) (book ended : BookNow D) (disk' : D) (handlers' : List H) (name : List ℕ)
     (t : Task) (result : Result Status Exit) (x : World) (e : Exit) → DoesTask g o book ended name t result → HasStack ended name (number_for (world_left book.entries) name t) result → NeverAhead book result
-    → NoneOut ended.lanes → IfOk result (λ _. IsAtRest g ended) → IsStretch g book ended → x ≡ world_left ended.entries → TellsOutcome p name x result e → disk' ≡ ended.disk
+    → NoneOut ended.lanes → IfOk result (λ _. IsAtRest g ended) → IsStretch g book ended → x ≡ world_left ended.entries → TellsOutcome p name t x result e → disk' ≡ ended.disk
     → AreHandlersOf h ended.lanes handlers' → KnowsDisk g ended → (ended.stopped ≡ None → Lasts g.tells (g.seen disk') (g.may_leave disk'))
     → DoesOver g h o p book disk' handlers' name t e
 does_over g h o p book ended disk' handlers' name t (Ok status) x e does has never none rest stretch is (st, there, prints) disk_is handlers_are known lasts = record {
@@ -166,5 +166,5 @@ module _ {D H : Type 0} (g : DiskGhosts D) (h : HandlerGhosts H) (stay : (d : D)
       )
 
   pub refused_on : (p : Printing) (name : List ℕ) (t : Task) (f : EnterFault) (e : Exit) → RefusesAs g h m.disk m.handlers m.disk' m.handlers' f → IsUnasked m.library
-      → Printed p name (Err (enter_exit f)) e → DoesOn g h m p name t e
+      → Printed p name t (Err (enter_exit f)) e → DoesOn g h m p name t e
   refused_on p name t f e refuses unasked prints = (Err (enter_exit f), (inl (f, refuses, refl, unasked), ahead_refused f refuses), prints)

@@ -16,9 +16,11 @@ use Rattle.cf_book.specs.Fences.{handed_in}
 use Rattle.cf_book.specs.Record.{world_left}
 use Rattle.cf_book.specs.State.{at_home}
 use Rattle.cf_face.specs.Exit.{ending_text}
+use Rattle.cf_face.specs.Words.{load_choice}
 use Rattle.cf_face.specs.declared.exit.Exit.{Exit}
 use Rattle.cf_face.specs.declared.exit.Exit.TheVariants as exit
 use Rattle.cf_face.specs.declared.exit.Refusal.TheVariants as refusal
+use Rattle.cf_face.specs.declared.words.Choice.{Choice}
 use Rattle.cf_face.specs.declared.words.Task.{Task}
 use Rattle.cf_face.specs.declared.words.Task.TheVariants as task
 use Rattle.cf_top.specs.Ends.{EndsWithoutFailure, HasEnded}
@@ -26,7 +28,7 @@ use Rattle.cf_top.specs.Opening.{Holds}
 use Rattle.cf_top.specs.Outside.{CameTo, NothingTouched, Outside, Printed, Printing}
 use Rattle.cf_workers.specs.Ordering.{schemas_in}
 use Rattle.cf_top.specs.Refusals.{deployment_refusal, exit_of_fault}
-use Rattle.cf_top.specs.Tasks.{status_refusal, task_words}
+use Rattle.cf_top.specs.Tasks.{load_texts, status_refusal, task_words}
 use Rattle.cf_top.specs.Telling.{outcome_text}
 
 -- the counts of faults of handlers
@@ -34,17 +36,18 @@ abbrev pub counts_of : {H : Type 0} → HandlerGhosts H → List H → List ℕ
 counts_of h handlers = map (λ l. l.count) (handed_in h handlers)
 
 -- what the words come to: they say nothing that is known, memory is short, or they are a task
-abbrev pub Comes : {D H : Type 0} → DiskGhosts D → HandlerGhosts H → Outside D H → List (List ℕ) → List ℕ → Result StackState Exit → Type 0
-Comes g h m words stack outcome =
+abbrev pub Comes : {D H : Type 0} → DiskGhosts D → HandlerGhosts H → Outside D H → List (List ℕ) → List ℕ → Task → Result StackState Exit
+    → Type 0
+Comes g h m words stack t outcome =
     ((outcome ≡ Err exit.BadWords) × (task_words words ≡ None) × NothingTouched m)
     ⊎ (((outcome ≡ Err exit.NoMemory) × NothingTouched m)
-    ⊎ ((t : Task) × (task_words words ≡ Some (stack, t)) × CameTo g h m stack t outcome))
+    ⊎ ((task_words words ≡ Some (stack, t)) × CameTo g h m stack t outcome))
 
 -- all of it: the words come to something, and that is printed and answered
 abbrev pub AloneTells : {D H : Type 0} → DiskGhosts D → HandlerGhosts H → Outside D H → Printing → List (List ℕ) → Exit → Type 0
 AloneTells g h m p words result =
-    (stack : List ℕ) × (outcome : Result StackState Exit) × Comes g h m words stack outcome
-    × Printed p stack outcome result
+    (stack : List ℕ) × (t : Task) × (outcome : Result StackState Exit) × Comes g h m words stack t outcome
+    × Printed p stack t outcome result
 
 -- a task came to this exit before its operation ended, or before it began, and that was printed
 pub record EndsEarly {D H : Type 0} (g : DiskGhosts D) (h : HandlerGhosts H) (m : Outside D H) (p : Printing) (words : List (List ℕ))
@@ -59,10 +62,11 @@ pub record EndsEarly {D H : Type 0} (g : DiskGhosts D) (h : HandlerGhosts H) (m 
 pub record IsCutShort {D H : Type 0} (g : DiskGhosts D) (h : HandlerGhosts H) (m : Outside D H) (p : Printing) (words : List (List ℕ))
     : Type 0 where
   pub stack : List ℕ
+  pub what : Task
   pub outcome : Result StackState Exit
   pub length : ℕ
-  pub comes : Comes g h m words stack outcome
-  pub printed : Appends p.held p.held' (take length (outcome_text stack outcome))
+  pub comes : Comes g h m words stack what outcome
+  pub printed : Appends p.held p.held' (take length (outcome_text stack what outcome))
 
 -- What each answer says. Those that a task ends with before its operation's end have their cause in `CameTo`, by cases on the exit.
 abbrev pub Says : {D H : Type 0} → DiskGhosts D → HandlerGhosts H → Outside D H → Printing → List (List ℕ) → Exit → Type 0
@@ -120,12 +124,16 @@ abbrev pub opened_world : {H : Type 0} → HandlerGhosts H → List H → List E
 opened_world h handlers es = world_left (es ++ opened_over (handed_in h handlers) es ∷ [])
 
 -- Why a task is refused: a deployment for its stack's status, or else for what is found under the template's name in a library that tells
--- its texts; an operation in progress also at its first path of a type that no lane has.
-abbrev pub IsRefusedAs : Option Texts → List Schema → World → List ℕ → Task → Exit → Type 0
-IsRefusedAs o schemas x name (task.Deploy choice) e =
+-- its texts, and a load for what its template is; an operation in progress also at its first path of a type that no lane has.
+abbrev pub IsDeploymentRefused : Option Texts → List Schema → World → List ℕ → Choice → Exit → Type 0
+IsDeploymentRefused o schemas x name choice e =
     (status_refusal name x ≡ Some e)
     ⊎ ((status_refusal name x ≡ None) × (texts : Texts) × (o ≡ Some texts)
     × (deployment_refusal schemas x name choice (text_named choice.template texts) ≡ Some e))
+
+abbrev pub IsRefusedAs : Option Texts → List Schema → World → List ℕ → Task → Exit → Type 0
+IsRefusedAs o schemas x name (task.Deploy choice) e = IsDeploymentRefused o schemas x name choice e
+IsRefusedAs o schemas x name (task.Load count) e = IsDeploymentRefused (Some (load_texts count)) schemas x name (load_choice count) e
 IsRefusedAs o schemas x name (task.Continue paths) e = option_map exit_of_fault (continue_refusal x name paths) ≡ Some e
 IsRefusedAs o schemas x name task.Resume (exit.TemplateRefused (refusal.UnknownType path kind)) =
     (resume_refusal x name ≡ None) × IsFirstStuck (lane_kinds x) (known_stack name x) path kind

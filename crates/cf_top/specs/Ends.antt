@@ -31,7 +31,6 @@ use Rattle.cf_prepare.specs.declared.wish.Order.TheVariants as order
 use Rattle.cf_book.specs.Fences.{handed_in}
 use Rattle.cf_book.specs.Record.{world_left}
 use Rattle.cf_book.specs.State.{BookNow}
-use Rattle.cf_face.specs.Report.{stack_report}
 use Rattle.cf_face.specs.declared.exit.Exit.{Exit}
 use Rattle.cf_face.specs.declared.exit.Exit.TheVariants as exit
 use Rattle.cf_face.specs.declared.words.Task.{Task}
@@ -41,7 +40,7 @@ use Rattle.cf_workers.specs.Turning.{IsCountedAsSent, TurnsBack, cause_in, reaso
 use Rattle.cf_top.specs.Outside.{HaveAgreed, Outside, Printing, WasDone}
 use Rattle.cf_workers.specs.Ordering.{schemas_in, before_by, going_by, number_of, with_order}
 use Rattle.cf_top.specs.Tasks.{OrdersTask, number_for, task_words}
-use Rattle.cf_top.specs.Telling.{exit_for}
+use Rattle.cf_top.specs.Telling.{exit_for, task_report}
 
 -- What the journal has of the operation, behind the entries of the book that was entered: its beginning, if the command began it, and then
 -- these entries, each of the operation, of which the last is its end, in this status and with these paths.
@@ -153,7 +152,7 @@ pub record KeepsStatus {D H : Type 0} (g : DiskGhosts D) (h : HandlerGhosts H) (
   pub completes : HaveAgreed g h m → has_completed s.status ≡ true → s.source ≡ s.going
 
 -- The operation was driven to its end: the one that the words order. The journal has its old entries, the opening, and what was written
--- then. What is printed is the stack that they leave, which says the exit, as its end does.
+-- then. What is printed is the task's report on the stack that they leave, which says the exit, as its end does.
 pub record HasEnded {D H : Type 0} (g : DiskGhosts D) (h : HandlerGhosts H) (m : Outside D H) (p : Printing) (words : List (List ℕ))
     (e : Exit) : Type 0 where
   pub name : List ℕ
@@ -175,7 +174,7 @@ pub record HasEnded {D H : Type 0} (g : DiskGhosts D) (h : HandlerGhosts H) (m :
   pub exit_is : e ≡ exit_for stack
   pub because : EndsBy g h m name wrote stack e
   pub promise : KeepsStatus g h m name (world_left entered.entries) ordered (world_left ended.entries) stack
-  pub printed : Appends p.held p.held' (stack_report name stack e)
+  pub printed : Appends p.held p.held' (task_report what name stack e)
 
 -- an answer that is a success
 abbrev pub IsSuccess : Reply → Type 0

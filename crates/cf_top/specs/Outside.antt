@@ -103,13 +103,13 @@ LeavesBook g o book ended name t (Ok st) =
 LeavesBook g o book ended name t (Err e) = DoesTask g o book ended name t (Err e) × NeverAhead book (Err e)
 
 -- what is printed at the end is the answer, where it could be printed
-abbrev pub Printed : Printing → List ℕ → Result StackState Exit → Exit → Type 0
-Printed p name outcome e = PrintTells p.held p.held' p.faults p.faults' (outcome_text name outcome) (outcome_exit outcome) e
+abbrev pub Printed : Printing → List ℕ → Task → Result StackState Exit → Exit → Type 0
+Printed p name t outcome e = PrintTells p.held p.held' p.faults p.faults' (outcome_text name t outcome) (outcome_exit outcome) e
 
 -- what is printed of a task over a world that it left
-abbrev pub TellsOutcome : Printing → List ℕ → World → Result Status Exit → Exit → Type 0
-TellsOutcome p name x (Ok status) e = (st : StackState) × (stack_at name x ≡ Some st) × Printed p name (Ok st) e
-TellsOutcome p name x (Err early) e = Printed p name (Err early) e
+abbrev pub TellsOutcome : Printing → List ℕ → Task → World → Result Status Exit → Exit → Type 0
+TellsOutcome p name t x (Ok status) e = (st : StackState) × (stack_at name x ≡ Some st) × Printed p name t (Ok st) e
+TellsOutcome p name t x (Err early) e = Printed p name t (Err early) e
 
 -- a task over a book, which is closed then, and what is printed of it
 pub record DoesOver {D H : Type 0} (g : DiskGhosts D) (h : HandlerGhosts H) (o : LibraryUse) (p : Printing) (book : BookNow D) (disk' : D)
@@ -123,8 +123,8 @@ pub record DoesOver {D H : Type 0} (g : DiskGhosts D) (h : HandlerGhosts H) (o :
   pub known : KnowsDisk g ended
   pub lasts : ended.stopped ≡ None → Lasts g.tells (g.seen disk') (g.may_leave disk')
   pub stretch : IsStretch g book ended
-  pub prints : Printed p name outcome e
+  pub prints : Printed p name t outcome e
 
 -- a task over the journal of a disk, and what is printed of it
 abbrev pub DoesOn : {D H : Type 0} → DiskGhosts D → HandlerGhosts H → Outside D H → Printing → List ℕ → Task → Exit → Type 0
-DoesOn g h m p name t e = (outcome : Result StackState Exit) × CameTo g h m name t outcome × Printed p name outcome e
+DoesOn g h m p name t e = (outcome : Result StackState Exit) × CameTo g h m name t outcome × Printed p name t outcome e

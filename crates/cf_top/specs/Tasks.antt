@@ -1,10 +1,11 @@
 -- What a command asks of a stack, what it orders, and why it is refused before anything is written (the order is this project's own; from
 -- which status what may begin is that of the User Guide: stack status codes).
-use Rattle.std.specs.Prelude.{◌≡◌, ℕ, ◌+◌, ◌<◌, List, Option, Some, None, Result, Ok, Err, IsTrue, option_map}
+use Rattle.std.specs.Prelude.{◌≡◌, ℕ, ◌+◌, ◌<◌, ◌≤◌, List, [], ◌∷◌, Option, Some, None, Result, Ok, Err, IsTrue, option_map}
 use Rattle.std.specs.Option.{option_and_then}
 use Rattle.cf_schema.specs.declared.described.Schema.{Schema}
 use Rattle.cf_stacks.specs.Apart.{AreApart}
-use Rattle.cf_io.specs.Library.{StandsUnder}
+use Rattle.cf_io.specs.Library.{StandsUnder, Texts}
+use Rattle.cf_load.specs.Text.{load_text}
 use Rattle.cf_effect.specs.World.{World, known_stack}
 use Rattle.cf_plan.specs.Follow.{deploys_from, is_opened_since, lane_kinds}
 use Rattle.cf_prepare.specs.Orders.{IsContinuation, IsDeployment}
@@ -17,7 +18,7 @@ use Rattle.cf_prepare.specs.declared.wish.PrepareFault.{PrepareFault}
 use Rattle.cf_prepare.specs.declared.wish.Wish.{Wish}
 use Rattle.cf_prepare.specs.declared.wish.Wish.TheVariants as wish
 use Rattle.cf_book.specs.Beginning.{IsPrepared}
-use Rattle.cf_face.specs.Words.{command_of, task_of}
+use Rattle.cf_face.specs.Words.{command_of, load_choice, load_name, task_of}
 use Rattle.cf_face.specs.declared.exit.Exit.{Exit}
 use Rattle.cf_face.specs.declared.exit.Exit.TheVariants as exit
 use Rattle.cf_face.specs.declared.words.Choice.{Choice}
@@ -30,12 +31,26 @@ use Rattle.cf_top.specs.Refusals.{IsRefusedFor, IsUnasked, LibraryUse, deployed_
 abbrev pub task_words : List (List ℕ) → Option (List ℕ × Task)
 task_words words = option_and_then task_of (command_of words)
 
+-- A load is a deployment by the template of the load mode, without the library: as if over a library that holds that template alone, under
+-- its name, and never fails (this project's own).
+abbrev pub load_texts : ℕ → Texts
+load_texts count = (load_name count, load_text count) ∷ []
+
+abbrev pub load_library : ℕ → LibraryUse
+load_library count = record { texts = Some (load_texts count); faults = 0; faults' = 0; misses = 0; misses' = 0 }
+
+-- that template is there for 1 to 500 records
+abbrev pub IsLoadable : Task → Type 0
+IsLoadable (task.Load count) = (1 ≤ count) × (count ≤ 500)
+IsLoadable _ = Unit {0}
+
 -- A deployment is refused for its stack's status before the library is asked; the other tasks for theirs with all else.
 abbrev pub status_refusal : List ℕ → World → Option Exit
 status_refusal name x = option_map exit_of_fault (if_barred deploys_from (known_stack name x))
 
 abbrev pub early_refusal : List ℕ → World → Task → Option Exit
 early_refusal name x (task.Deploy choice) = status_refusal name x
+early_refusal name x (task.Load count) = status_refusal name x
 early_refusal name x _ = None
 
 -- Why nothing was done.
@@ -50,9 +65,11 @@ abbrev pub RefusesTask : LibraryUse → List Schema → World → List ℕ → T
 RefusesTask o schemas x name (task.Deploy choice) e = RefusesDeployment o schemas x name choice (status_refusal name x) e
 RefusesTask o schemas x name (task.Continue paths) e = RefusesWish schemas x (wish.Continue name paths) e × IsUnasked o
 RefusesTask o schemas x name task.Resume e = RefusesWish schemas x (wish.Resume name) e × IsUnasked o
+RefusesTask o schemas x name (task.Load count) e =
+    RefusesDeployment (load_library count) schemas x name (load_choice count) (status_refusal name x) e × IsUnasked o
 
--- What is ordered where nothing is refused: the beginning of a creation or an update by the template that is found in the library, with
--- just the exports of other stacks that it uses; that of a continued rollback, which skips the paths that are named; or the operation in
+-- What is ordered where nothing is refused: the beginning of a creation or an update by the template that is found in the library, or that
+-- of the load mode, with just the exports of other stacks that it uses; that of a continued rollback, which skips the paths that are named; or the operation in
 -- progress.
 pub record DeploysBy (o : LibraryUse) (schemas : List Schema) (x : World) (name : List ℕ) (choice : Choice) (ordered : Order) : Type 0 where
   pub free : status_refusal name x ≡ None
@@ -67,6 +84,8 @@ OrdersTask o schemas x name (task.Continue paths) ordered =
     (continue_refusal x name paths ≡ None) × IsContinuation x name paths ordered × IsUnasked o
 OrdersTask o schemas x name task.Resume ordered =
     ResumesAs (resume_refusal x name) (lane_kinds x) (known_stack name x) (Ok ordered) × IsUnasked o
+OrdersTask o schemas x name (task.Load count) ordered =
+    DeploysBy (load_library count) schemas x name (load_choice count) ordered × IsUnasked o
 
 -- It may be begun, on that stack, and no two operations have one number.
 pub record IsOrdered (o : LibraryUse) (schemas : List Schema) (x : World) (name : List ℕ) (t : Task) (ordered : Order) : Type 0 where

@@ -9,9 +9,11 @@ use Rattle.cf_face.specs.declared.exit.Exit.{Exit}
 use Rattle.cf_face.specs.declared.exit.Exit.TheVariants as exit
 use Rattle.cf_face.specs.declared.exit.StackFault.TheVariants.{NoStack}
 use Rattle.cf_face.specs.Exit.{ending_text}
-use Rattle.cf_face.specs.Report.{events_report, list_report, stack_report}
+use Rattle.cf_face.specs.Report.{events_report, list_report, load_report, stack_report}
 use Rattle.cf_face.specs.declared.words.Subject.{Subject}
 use Rattle.cf_face.specs.declared.words.Subject.TheVariants as subject
+use Rattle.cf_face.specs.declared.words.Task.{Task}
+use Rattle.cf_face.specs.declared.words.Task.TheVariants as task
 use Rattle.cf_workers.specs.Turning.{cause_of}
 
 -- A rollback that was continued has done what was asked; any other one tells why the operation turned back.
@@ -30,10 +32,15 @@ exit_by s _ = exit.Failed (failed_of s)
 abbrev pub exit_for : StackState → Exit
 exit_for s = exit_by s s.status
 
+-- the report of a task on the stack that it left: that of a load is short
+abbrev pub task_report : Task → List ℕ → StackState → Exit → List ℕ
+task_report (task.Load count) name st e = load_report count name st e
+task_report _ name st e = stack_report name st e
+
 -- the stack that an operation left is reported with its exit; of every other end what says it is printed alone
-abbrev pub outcome_text : List ℕ → Result StackState Exit → List ℕ
-outcome_text name (Ok st) = stack_report name st (exit_for st)
-outcome_text name (Err e) = ending_text e
+abbrev pub outcome_text : List ℕ → Task → Result StackState Exit → List ℕ
+outcome_text name t (Ok st) = task_report t name st (exit_for st)
+outcome_text name t (Err e) = ending_text e
 
 abbrev pub outcome_exit : Result StackState Exit → Exit
 outcome_exit (Ok st) = exit_for st

@@ -1,12 +1,14 @@
-//! What a deployment orders, by the template that is found in the library.
+//! What a deployment orders, by the template that is found in the library or by that of the load mode.
 ghost use Rattle.std.specs.Prelude.{◌≡◌, ◌≤◌, None};
 ghost use Rattle.cf_face.specs.declared.words.Task.TheVariants.{Deploy};
-ghost use Rattle.cf_top.specs.Tasks.{FindsOrder, status_refusal};
+ghost use Rattle.cf_face.specs.Words.{load_choice};
+ghost use Rattle.cf_top.specs.Tasks.{FindsOrder, load_library, status_refusal};
 
 use crate::planning::check_template;
 use crate::refusals::missing;
-use cf_face::{Choice, Exit};
+use cf_face::{Choice, Exit, load_choice};
 use cf_io::{FetchFault, Library};
+use cf_load::load_text;
 use cf_prepare::Order;
 use cf_schema::Schemas;
 use cf_stacks::World;
@@ -45,5 +47,38 @@ pub fn order_deployment<L: Library>(
         Ok(None) => Err(missing(alloc, &choice.template)),
         Err(FetchFault::Failed) => Err(Exit::LibraryFault),
         Err(FetchFault::NoMemory) => Err(Exit::NoMemory),
+    }
+}
+
+/// What a load of so many records orders that is not refused for its stack's status: a deployment by the template of the load mode.
+///
+/// # Errors
+///
+/// What `check_template` refuses.
+pub fn order_load(
+    alloc: Global,
+    world: &World,
+    schemas: &Schemas,
+    count: u32,
+    stack: &Txt,
+) -> Result<Order, Exit>
+    requires some { 1 ≤ count }
+    requires few { count ≤ 500 }
+    requires free { status_refusal stack.now world.now.world ≡ None }
+    ensures { FindsOrder (load_library count) schemas.now world.now.world stack.now (Deploy (load_choice count)) result }
+{
+    let Ok(choice) = load_choice(alloc, count) else {
+        return Err(Exit::NoMemory);
+    };
+    match load_text(alloc, count) {
+        Ok(text) => {
+            let ordered = check_template(alloc, world, schemas, &choice, stack, text);
+            drop(choice);
+            ordered
+        }
+        Err(_) => {
+            drop(choice);
+            Err(Exit::NoMemory)
+        }
     }
 }

@@ -7,11 +7,11 @@ ghost use Rattle.cf_book.specs.State.{NoneOut};
 ghost use Rattle.cf_stacks.specs.Apart.{AreApart};
 ghost use Rattle.cf_top.specs.Performed.{DoesTask, ExitsFor, NeverAhead, Performs, RunsFor};
 ghost use Rattle.cf_workers.specs.Ordering.{HasStack, IsJustOpened, IsPlaced, schemas_in};
-ghost use Rattle.cf_top.specs.Tasks.{FindsOrder, early_refusal, number_for};
+ghost use Rattle.cf_top.specs.Tasks.{FindsOrder, IsLoadable, early_refusal, number_for};
 ghost use Rattle.cf_workers.specs.Driving.{IsAtRest};
 ghost use Rattle.cf_workers.specs.Leading.{IsStretch};
 
-use crate::deployment::order_deployment;
+use crate::deployment::{order_deployment, order_load};
 use crate::refusals::refused;
 use crate::resuming::{order_continuation, order_resumption};
 use cf_book::{Book, StopFault};
@@ -37,6 +37,7 @@ fn order_of<L: Library>(
     task: &Task,
 ) -> Result<Order, Exit>
     requires free { early_refusal stack.now world.now.world task.now ≡ None }
+    requires few { IsLoadable task.now }
     ensures same { L.texts library.new ≡ L.texts library.old }
     ensures faults { L.count library.old ≤ L.count library.new }
     ensures misses { L.missed library.old ≤ L.missed library.new }
@@ -53,6 +54,7 @@ fn order_of<L: Library>(
         Task::Deploy(choice) => order_deployment(alloc, library, world, schemas, choice, stack),
         Task::Continue(paths) => order_continuation(alloc, world, schemas, stack, paths),
         Task::Resume => order_resumption(alloc, world, schemas, stack),
+        Task::Load(count) => order_load(alloc, world, schemas, *count, stack),
     }
 }
 
@@ -119,6 +121,7 @@ fn do_now<L: Library, D: Disk, H: Handler>(
     requires apart { AreApart (world_left book.old.entries) }
     requires opened { IsJustOpened book.old.entries }
     requires free { early_refusal stack.now (world_left book.old.entries) task.now ≡ None }
+    requires few { IsLoadable task.now }
     ensures same { L.texts library.new ≡ L.texts library.old }
     ensures faults { L.count library.old ≤ L.count library.new }
     ensures performs { Performs D.Disk (record {
@@ -141,12 +144,12 @@ fn do_now<L: Library, D: Disk, H: Handler>(
     }
 }
 
-/// The exit of a deployment that is refused for its stack's status.
+/// The exit of a deployment or a load that is refused for its stack's status.
 fn early_refusal(world: &World, stack: &Txt, task: &Task) -> Option<Exit>
     ensures { result ≡ early_refusal stack.now world.now.world task.now }
 {
     match task {
-        Task::Deploy(_) => match status_refusal(world, stack) {
+        Task::Deploy(_) | Task::Load(_) => match status_refusal(world, stack) {
             Some(fault) => Some(refused(fault)),
             None => None,
         },
@@ -160,9 +163,10 @@ fn early_refusal(world: &World, stack: &Txt, task: &Task) -> Option<Exit>
 ///
 /// A deployment is refused by `WrongStatus` where the stack is neither created nor updated from its status, then by `LibraryFault` and
 /// `TemplateRefused`, as in the library and among the lanes' types, and by `StackRefused` for what the stack holds or exports, or where
-/// nothing changes. A continued rollback and an operation in progress are refused by `NoStack`, `WrongStatus`, `NotFailed`, and by
-/// `UnknownType` where a path of the operation has still to be done whose type no lane has. Nothing is written and no lane is called
-/// before them. After `Full`, `DiskFault`, `LaneAhead` and `NoMemory` the operation may be in progress. No call is out at return.
+/// nothing changes; so is a load, but for the library, which it does not ask. A continued rollback and an operation in progress are
+/// refused by `NoStack`, `WrongStatus`, `NotFailed`, and by `UnknownType` where a path of the operation has still to be done whose type no
+/// lane has. Nothing is written and no lane is called before them. After `Full`, `DiskFault`, `LaneAhead` and `NoMemory` the operation may
+/// be in progress. No call is out at return.
 pub fn do_task<L: Library, D: Disk, H: Handler>(
     alloc: Global,
     library: &mut L,
@@ -173,6 +177,7 @@ pub fn do_task<L: Library, D: Disk, H: Handler>(
     requires running { book.old.stopped ≡ None }
     requires home { NoneOut book.old.lanes }
     requires opened { IsJustOpened book.old.entries }
+    requires few { IsLoadable task.now }
     ensures same { L.texts library.new ≡ L.texts library.old }
     ensures faults { L.count library.old ≤ L.count library.new }
     ensures tells { DoesTask D.Disk (record {

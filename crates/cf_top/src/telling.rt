@@ -8,13 +8,13 @@ ghost use Rattle.cf_effect.specs.Operation.{is_of};
 ghost use Rattle.cf_plan.specs.Follow.{failed_in, failed_of};
 ghost use Rattle.cf_face.specs.declared.exit.Exit.TheVariants.{RolledBack};
 ghost use Rattle.cf_face.specs.Print.{PrintTells};
-ghost use Rattle.cf_face.specs.Report.{stack_report};
-ghost use Rattle.cf_top.specs.Telling.{exit_back, exit_for};
+ghost use Rattle.cf_face.specs.Report.{load_report, stack_report};
+ghost use Rattle.cf_top.specs.Telling.{exit_back, exit_for, task_report};
 ghost use Rattle.cf_core.specs.Turned.{cause_in, is_continuation};
 ghost use Rattle.cf_workers.specs.Turning.{cause_of};
 
 use cf_entry::{Begun, Cause, Entry, Phase, Status};
-use cf_face::{Exit, put, report};
+use cf_face::{Exit, Task, load_report, put, report};
 use cf_io::Sink;
 use cf_stacks::{HeardEntry, StackState, World};
 use cf_tree::{Names, NoMemory, TryClone, Txt};
@@ -286,27 +286,82 @@ pub fn tell_stack<K: Sink>(
     }
 }
 
-/// Prints the report on a stack whose operation has ended, and answers how it ended.
-fn tell_ended<K: Sink>(alloc: Global, out: &mut K, name: &Txt, stack: &StackState) -> Exit
+/// Prints the report on a stack of the load mode with an exit, and answers that.
+fn tell_load<K: Sink>(
+    alloc: Global,
+    out: &mut K,
+    count: u32,
+    name: &Txt,
+    stack: &StackState,
+    exit: Exit,
+) -> Exit
     ensures faults { K.count out.old ≤ K.count out.new }
     ensures tells { PrintTells (K.held out.old) (K.held out.new) (K.count out.old) (K.count out.new)
-        (stack_report name.now stack.now.stack (exit_for stack.now.stack)) (exit_for stack.now.stack) result }
+        (load_report count name.now stack.now.stack exit) exit result }
+{
+    match load_report(alloc, count, name, stack, &exit) {
+        Ok(text) => put(out, text.as_str(), exit),
+        Err(NoMemory) => {
+            drop(exit);
+            Exit::NoMemory
+        }
+    }
+}
+
+/// Prints the report of a task on the stack that it left with an exit, and answers that.
+fn tell_left<K: Sink>(
+    alloc: Global,
+    out: &mut K,
+    name: &Txt,
+    task: &Task,
+    stack: &StackState,
+    exit: Exit,
+) -> Exit
+    ensures faults { K.count out.old ≤ K.count out.new }
+    ensures tells { PrintTells (K.held out.old) (K.held out.new) (K.count out.old) (K.count out.new)
+        (task_report task.now name.now stack.now.stack exit) exit result }
+{
+    match task {
+        Task::Load(count) => tell_load(alloc, out, *count, name, stack, exit),
+        Task::Deploy(_) | Task::Continue(_) | Task::Resume => {
+            tell_stack(alloc, out, name, stack, exit)
+        }
+    }
+}
+
+/// Prints the report of a task on the stack whose operation has ended, and answers how it ended.
+fn tell_ended<K: Sink>(
+    alloc: Global,
+    out: &mut K,
+    name: &Txt,
+    task: &Task,
+    stack: &StackState,
+) -> Exit
+    ensures faults { K.count out.old ≤ K.count out.new }
+    ensures tells { PrintTells (K.held out.old) (K.held out.new) (K.count out.old) (K.count out.new)
+        (task_report task.now name.now stack.now.stack (exit_for stack.now.stack)) (exit_for stack.now.stack) result }
 {
     match exit_for(alloc, stack) {
-        Ok(exit) => tell_stack(alloc, out, name, stack, exit),
+        Ok(exit) => tell_left(alloc, out, name, task, stack, exit),
         Err(_) => Exit::NoMemory,
     }
 }
 
-/// Prints the report on the stack of a name whose operation has ended, and answers how it ended.
-pub fn tell_over<K: Sink>(alloc: Global, out: &mut K, name: &Txt, world: &World) -> Exit
+/// Prints the report of a task on the stack of a name whose operation has ended, and answers how it ended.
+pub fn tell_over<K: Sink>(
+    alloc: Global,
+    out: &mut K,
+    name: &Txt,
+    task: &Task,
+    world: &World,
+) -> Exit
     requires { (st : Stack) × (stack_at name.now world.now.world ≡ Some st) }
     ensures faults { K.count out.old ≤ K.count out.new }
     ensures tells { (st : Stack) × (stack_at name.now world.now.world ≡ Some st)
-        × PrintTells (K.held out.old) (K.held out.new) (K.count out.old) (K.count out.new) (stack_report name.now st (exit_for st)) (exit_for st) result }
+        × PrintTells (K.held out.old) (K.held out.new) (K.count out.old) (K.count out.new) (task_report task.now name.now st (exit_for st)) (exit_for st) result }
 {
     match world.stack(name.as_str()) {
-        Some(stack) => tell_ended(alloc, out, name, stack),
+        Some(stack) => tell_ended(alloc, out, name, task, stack),
         None => unreachable!(),
     }
 }

@@ -14,7 +14,7 @@ ghost use Rattle.cf_top.specs.Opening.{enter_exit};
 ghost use Rattle.cf_effect.specs.World.{StackState as Stack, stack_at};
 ghost use Rattle.cf_top.specs.Outside.{DoesOn, DoesOver, TellsOutcome};
 ghost use Rattle.cf_workers.specs.Ordering.{IsJustOpened};
-ghost use Rattle.cf_top.specs.Tasks.{task_words};
+ghost use Rattle.cf_top.specs.Tasks.{IsLoadable, task_words};
 
 use crate::asking::{read_question, tell_from};
 use crate::doing::do_task;
@@ -44,7 +44,7 @@ fn read_task(alloc: Global, words: &[Txt]) -> Result<Option<(Txt, Task)>, NoMemo
     ensures { IfOk result (λ named. named ≡ task_words words.now) }
 {
     match read_words(alloc, words)? {
-        Some(command) => Ok(command.into_task()),
+        Some(command) => command.into_task(alloc),
         None => Ok(None),
     }
 }
@@ -70,16 +70,17 @@ fn tell_outcome<K: Sink>(
     alloc: Global,
     out: &mut K,
     stack: &Txt,
+    task: &Task,
     done: Result<Status, Exit>,
     world: &World,
 ) -> Exit
     requires { IfOk done (λ _. (st : Stack) × (stack_at stack.now world.now.world ≡ Some st)) }
     ensures { TellsOutcome
         (record { held = K.held out.old; held' = K.held out.new; faults = K.count out.old; faults' = K.count out.new })
-        stack.now world.now.world done result }
+        stack.now task.now world.now.world done result }
 {
     match done {
-        Ok(_) => tell_over(alloc, out, stack, world),
+        Ok(_) => tell_over(alloc, out, stack, task, world),
         Err(exit) => print_exit(alloc, out, exit),
     }
 }
@@ -96,6 +97,7 @@ fn do_over<L: Library, K: Sink, D: Disk, H: Handler>(
     requires running { book.stopped ≡ None }
     requires home { NoneOut book.lanes }
     requires opened { IsJustOpened book.entries }
+    requires few { IsLoadable task.now }
     ensures same { L.texts library.new ≡ L.texts library.old }
     ensures tells { DoesOver D.Disk H.Handler (record {
       texts = L.texts library.old;
@@ -109,7 +111,7 @@ fn do_over<L: Library, K: Sink, D: Disk, H: Handler>(
 {
     let mut book = book;
     let done = do_task(alloc, library, &mut book, stack, task);
-    let exit = tell_outcome(alloc, out, stack, done, book.world());
+    let exit = tell_outcome(alloc, out, stack, task, done, book.world());
     let (disk, lanes) = book.close();
     Ended { exit, disk, lanes }
 }
@@ -126,6 +128,7 @@ fn recover_and_do<L: Library, K: Sink, D: Disk, H: Handler>(
 ) -> Ended<D, H>
     requires least { 16 ≤ D.room_of disk }
     requires most { D.room_of disk ≤ 2 ^ 32 }
+    requires few { IsLoadable task.now }
     ensures same { L.texts library.new ≡ L.texts library.old }
     ensures room { D.room_of result.disk ≡ D.room_of disk }
     ensures any_moment { IsTrue D.tells → LeavesOnly D.moment D.left_since disk result.disk
@@ -212,6 +215,11 @@ fn run_words<L: Library, K: Sink, D: Disk, H: Handler>(
 /// `continue-rollback STACK PATH ..` goes on with the rollback of an update that failed, and skips what failed at these paths: that keeps
 /// its id and its properties are not known from then on. `resume STACK` ends the operation that is in progress on the stack, as the command
 /// that began it would have. A call whose outcome is not known is made again under its token, which acts once.
+///
+/// `load N` is the same as `deploy load-N` by the template of the load mode with N records, under the name `load-N`, and asks nothing of
+/// the library: each record needs the one of half its number, and an output tells the length of the last one. Where its operation reached
+/// an end it prints how many records it loads, the stack's status, how many resources the stack holds, the output where it is there, and the
+/// exit.
 ///
 /// The journal gets an opening with the lanes, a beginning with the template and what is given, an intent before and an outcome after each
 /// call, and an end. It prints the stack that the journal then leaves, and the exit; every other end prints the line of its exit alone, and

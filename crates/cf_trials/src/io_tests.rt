@@ -259,9 +259,13 @@ impl Write for Narrow {
 }
 
 // What a put of `abcdef` to a writer of this room answers, and the count of faults after it.
-fn narrow_put(alloc: Global, room: usize, kind: Option<ErrorKind>) -> (Result<(), SinkFail>, u64) {
-    let taken = Vec::new(alloc);
-    let mut sink = StdoutSink::new(Narrow { taken, room, kind });
+fn narrow_put(
+    rt: HostRuntime,
+    room: usize,
+    kind: Option<ErrorKind>,
+) -> (Result<(), SinkFail>, u64) {
+    let taken = Vec::new(rt.alloc());
+    let mut sink = StdoutSink::new(rt, Narrow { taken, room, kind });
     let answer = sink.put(b"abcdef");
     let faults = sink.faults();
     drop(sink);
@@ -276,17 +280,14 @@ fn standard_output_writes_until_all_is_taken(rt: HostRuntime) -> Result<(), Fail
         (2, Some(ErrorKind::BrokenPipe), Err(SinkFail::Failed), 1),
         (2, Some(ErrorKind::OutOfMemory), Err(SinkFail::NoMemory), 0),
     ] {
-        assert!(rt;
-            narrow_put(rt.alloc(), room, kind) == (answer, faults),
-            "at {room}"
-        );
+        assert!(rt; narrow_put(rt, room, kind) == (answer, faults), "at {room}");
     }
     Ok(())
 }
 
 #[test]
 fn standard_output_is_written_to(rt: HostRuntime) -> Result<(), Fail> {
-    let mut sink = StdoutSink::new(io::writer(&rt));
+    let mut sink = StdoutSink::new(rt, io::writer(&rt));
     sink.put(b"printed\n")?;
     assert_eq!(rt; sink.faults(), 0);
     Ok(())

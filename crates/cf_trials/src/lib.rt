@@ -12,11 +12,15 @@
 #[cfg(test)]
 mod disk_tests;
 #[cfg(test)]
+mod file_tests;
+#[cfg(test)]
 mod handler_tests;
 #[cfg(test)]
 mod io_tests;
 #[cfg(test)]
 mod journal_tests;
+#[cfg(test)]
+mod lane_tests;
 #[cfg(test)]
 mod room_tests;
 #[cfg(test)]

@@ -1,10 +1,6 @@
-use Rattle.std.proofs.Common.{◌≡◌, ◌∷◌, ◌-◌, ◌∙◌, List, ℕ, Result, drop, take, length, subst, sym, ap, arith}
+use Rattle.std.proofs.Common.{◌≡◌, ◌∷◌, ◌-◌, ◌∙◌, List, ℕ, Result, Ok, drop, take, length, subst, sym, ap, arith}
 use Rattle.std.proofs.Math.Seq.{take-length}
-use Rattle.cf_disk.specs.contracts.memory.MemoryDiskDisk.TheImpl as of_disk
 use Rattle.cf_disk.specs.declared.disk.Disk.{Ghosts as DiskGhosts}
-use Rattle.cf_disk.specs.declared.memory.MemoryDisk.{MemoryDisk}
-use Rattle.cf_fake.specs.contracts.memory.MemoryHandlerHandler.TheImpl as of_handler
-use Rattle.cf_fake.specs.declared.memory.MemoryHandler.{MemoryHandler}
 use Rattle.cf_handler.specs.declared.handler.Handler.{Ghosts as HandlerGhosts}
 use Rattle.cf_face.specs.declared.exit.Exit.{Exit}
 use Rattle.cf_top.specs.Refusals.{LibraryUse}
@@ -23,16 +19,16 @@ after_two words home workers rest e =
     (ap (λ (k : ℕ). take k rest) n ∙ take-length rest)
 
 runs_rest :
-    (g : DiskGhosts MemoryDisk) (h : HandlerGhosts MemoryHandler) (o : LibraryUse) (p : Printing)
-    (words : List (List ℕ)) (home workers : List ℕ) (rest : List (List ℕ)) (result : Result (Ended MemoryDisk MemoryHandler) Exit)
-    → words ≡ home ∷ workers ∷ rest → RunsAs g h o p (take (length words - 2) (drop 2 words)) result
-    → RunsAs g h o p rest result
-runs_rest g h o p words home workers rest result e runs =
-    subst (λ (ws : List (List ℕ)). RunsAs g h o p ws result) (after_two words home workers rest e) runs
+    {D H : Type 0} (g : DiskGhosts D) (h : HandlerGhosts H) (o : LibraryUse) (p : Printing) (disk : D) (handlers : List H)
+    (words : List (List ℕ)) (home workers : List ℕ) (rest : List (List ℕ)) (result : Result (Ended D H) Exit)
+    → words ≡ home ∷ workers ∷ rest → RunsAs g h o p disk handlers (take (length words - 2) (drop 2 words)) result
+    → RunsAs g h o p disk handlers rest result
+runs_rest g h o p disk handlers words home workers rest result e runs =
+    subst (λ (ws : List (List ℕ)). RunsAs g h o p disk handlers ws result) (after_two words home workers rest e) runs
 
 pub returns-in-Some-clause-runs : goal.returns-in-Some-clause-runs
 returns-in-Some-clause-runs g c home workers rest e f =
-    runs_rest of_disk.ghosts of_handler.ghosts (record {
+    runs_rest g.D.Disk g.H.Handler (record {
       texts = g.L.Library.texts c.args.library.now;
       faults = g.L.Library.count c.args.library.now;
       faults' = g.L.Library.count c.run_on.new.library;
@@ -43,4 +39,4 @@ returns-in-Some-clause-runs g c home workers rest e f =
       held' = g.K.Sink.held c.run_on.new.out;
       faults = g.K.Sink.count c.args.out.now;
       faults' = g.K.Sink.count c.run_on.new.out;
-    }) c.args.words.now home workers rest c.run_on.result e c.run_on.ensures.runs
+    }) c.args.disk c.args.lanes.items c.args.words.now home workers rest (Ok c.run_on.result) e c.run_on.ensures.runs

@@ -8,7 +8,7 @@ use Rattle.cf_top.proofs.Finding.{found_over, may_start, short_of}
 use Rattle.cf_top.proofs.doing.do_now.Goals as goal
 
 pub order_of-ordered-requires : goal.order_of-ordered-requires
-order_of-ordered-requires g c = record { free = ap (λ x. early_refusal c.args.stack.now x c.args.task.now) c.world.ensures.world ∙ c.requires.free }
+order_of-ordered-requires g c = record { free = ap (λ x. early_refusal c.args.stack.now x c.args.task.now) c.world.ensures.world ∙ c.requires.free; few = c.requires.few }
 
 pub run-requires-clause-rest : goal.run-requires-clause-rest
 run-requires-clause-rest g c = c.requires.rest

@@ -15,6 +15,7 @@ no_question None e = refl
 no_question (Some (command.Deploy stack template given)) e = refl
 no_question (Some (command.ContinueRollback stack paths)) e = refl
 no_question (Some (command.Resume stack)) e = refl
+no_question (Some (command.Load count)) e = refl
 no_question (Some (command.Describe stack)) e = absurd (cc)
 no_question (Some (command.Events stack)) e = absurd (cc)
 no_question (Some command.List) e = absurd (cc)

@@ -18,6 +18,9 @@ do_over-requires-clause-home g c = none_out c.in-Ok.ensures.enters.0 (handed_in 
 pub do_over-requires-clause-opened : goal.do_over-requires-clause-opened
 do_over-requires-clause-opened g c = just_opened c.in-Ok.ensures.enters.0 (handed_in g.H.Handler c.args.lanes.items) c.in-Ok.book c.in-Ok.ensures.enters.2
 
+pub do_over-requires-clause-few : goal.do_over-requires-clause-few
+do_over-requires-clause-few g c = c.requires.few
+
 pub returns-in-Ok-clause-room : goal.returns-in-Ok-clause-room
 returns-in-Ok-clause-room g c =
     ap g.D.Disk.room_of c.do_over.ensures.tells.disk_is ∙ c.do_over.ensures.tells.stretch.disk.room ∙ c.in-Ok.ensures.disk.room

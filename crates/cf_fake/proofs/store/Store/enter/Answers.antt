@@ -1,5 +1,5 @@
 use Rattle.cf_handler.specs.declared.settled.Settled.{Settled}
-use Rattle.cf_fake.proofs.Free.{noted_after}
+use Rattle.cf_answers.proofs.Free.{noted_after}
 use Rattle.cf_fake.proofs.Keeps.{kept_after, same_after}
 use Rattle.cf_fake.proofs.store.Store.enter.Goals as goal
 

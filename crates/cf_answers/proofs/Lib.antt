@@ -1,0 +1,4 @@
+pub mod Changes
+pub mod Free
+pub mod Differ
+pub mod Fitting

@@ -1,0 +1,5 @@
+pub mod Table
+pub mod Live
+pub mod Noted
+pub mod Set
+pub mod Fits
