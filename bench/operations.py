@@ -1,6 +1,7 @@
 #!/usr/bin/env python3
 """Measures what operations cost: a chain, a fan and a binary tree of 100, 250 and 500 resources, created, and created and
-rolled back, whole process, reading and report included; and all updated, and all updated and rolled back.
+rolled back, whole process, reading and report included; and all updated, and all updated and rolled back; and change sets that
+add all, and that modify all.
 
 usage: bench/operations.py PROGRAM [SCENARIOS]
 
@@ -8,10 +9,12 @@ PROGRAM is the built program. The table has for each template its bytes, the ins
 shortest time of three runs and its peak memory; then for each shape how many times as many instructions the greatest takes
 as half of it.
 
-SCENARIOS is the built program of `cf_scenarios`, which plays several commands over one journal in memory; updates are
-measured by it, and left out without it. What an update costs is what a scenario of a creation and an update executes more
+SCENARIOS is the built program of `cf_scenarios`, which plays several commands over one journal in memory; updates and change
+sets are measured by it, and left out without it. What an update costs is what a scenario of a creation and an update executes more
 than one of that creation alone; so of a rollback. Beside it stands how many times that is of what the same creation, with its
-rollback, costs there (against a scenario that only reads the templates).
+rollback, costs there (against a scenario that only reads the templates). So of a change set: one that adds all is measured over an
+empty journal, one that modifies all, and its execution, over the stack that the creation left; its report is printed. Beside the one
+that modifies all stands what it takes more than one that is refused as soon as the journal has been opened.
 
 Instructions are counted by valgrind: the total that `valgrind --tool=callgrind` says it collected, which is every
 instruction that the process executes in user mode, from its first to its last. Other work on the machine doesn't change
@@ -21,7 +24,7 @@ Peak memory below that of this script's own process, some 11 MB, is not seen.
 Every resource is a record whose value refers to the one that it needs. A creation is rolled back for an output whose index
 lies outside its list once all is made. The home is removed afterwards, and each run begins with a new journal and new lanes;
 of scenarios disk and lanes are in memory. An update gives every resource another value; it is rolled back because the lane
-refuses the last call of it. Deletions and change sets are not measured, since no command of the program does them yet.
+refuses the last call of it. Deletions are not measured, since no command of the program does them yet.
 """
 import json
 import os
@@ -149,21 +152,29 @@ TEMPLATES = (("first", "a", False), ("second", "b", False), ("bad", "a", True))
 
 REFUSAL = "ServiceLimitExceeded"
 
+# A change set that is refused once the journal is opened: the library has no such template.
+ABSENT = ("create-change-set s absent", 'exit 2 TemplateRefused Plan TemplateMissing "absent"')
+
+
+def deploy(name):
+    """The words that deploy a template on the stack."""
+    return f"deploy s {name}"
+
 
 def scenario(count, need, commands, refused=None):
-    """A scenario of commands, of each its template and how it ends; the lane refuses the call of this number."""
+    """A scenario of commands, of each its words and how it ends; the lane refuses the call of this number."""
     lines = [f"template {name} {template(count, need, back, word).decode()}" for name, word, back in TEMPLATES]
     lines += ["== operations", "room 60000000", f"lane r1 records {refused} refuse {REFUSAL}" if refused else "lane r1 records"]
-    for name, end in commands:
-        lines += [f"> deploy s {name}", f"= {end}"]
+    for words, end in commands:
+        lines += [f"> {words}", f"= {end}"]
     return lines
 
 
 def measure_updates(program, home, count):
     """Prints what an update of so many resources and its rollback cost beside a creation and its rollback."""
     for shape, need in SHAPES.items():
-        first, second, bad = ("first", ENDS[False]), ("second", ENDS[False]), ("bad", ENDS[True])
-        refused = ("second", f'exit 4 RolledBack Handler "R{count:04}" {REFUSAL}')
+        first, second, bad = (deploy("first"), ENDS[False]), (deploy("second"), ENDS[False]), (deploy("bad"), ENDS[True])
+        refused = (deploy("second"), f'exit 4 RolledBack Handler "R{count:04}" {REFUSAL}')
         none = played(program, home, scenario(count, need, []))
         created = played(program, home, scenario(count, need, [first]))
         undone = played(program, home, scenario(count, need, [bad])) - none
@@ -171,6 +182,25 @@ def measure_updates(program, home, count):
         restored = played(program, home, scenario(count, need, [first, refused], 2 * count)) - created
         for name, taken, beside in (("updated", updated, created - none), ("restored", restored, undone)):
             print(f"{name:12}{shape:6}{count:>10}{taken / 1e6:>14.1f} million, {taken / beside:.2f} times {beside / 1e6:.1f}", flush=True)
+
+
+def measure_sets(program, home, count):
+    """Prints what a change set over so many resources costs, and what its execution costs beside the same update."""
+    for shape, need in SHAPES.items():
+        first, second = (deploy("first"), ENDS[False]), (deploy("second"), ENDS[False])
+        adds, modifies = ("create-change-set s first", ENDS[False]), ("create-change-set s second", ENDS[False])
+        executes = ("execute-change-set s 1", ENDS[False])
+        none = played(program, home, scenario(count, need, []))
+        created = played(program, home, scenario(count, need, [first]))
+        added = played(program, home, scenario(count, need, [adds])) - none
+        opened = played(program, home, scenario(count, need, [first, ABSENT])) - created
+        kept = played(program, home, scenario(count, need, [first, modifies]))
+        updated = played(program, home, scenario(count, need, [first, second])) - created
+        executed = played(program, home, scenario(count, need, [first, modifies, executes])) - kept
+        modified = kept - created
+        for name, taken in (("set adds", added), ("set modifies", modified), ("but opening", modified - opened)):
+            print(f"{name:12} {shape:6}{count:>9}{taken / 1e6:>14.1f} million", flush=True)
+        print(f"{'executed':12}{shape:6}{count:>10}{executed / 1e6:>14.1f} million, {executed / updated:.2f} times {updated / 1e6:.1f}", flush=True)
 
 
 def main():
@@ -186,6 +216,7 @@ def main():
         if len(sys.argv) == 3 and shutil.which("valgrind"):
             for count in COUNTS[1:]:
                 measure_updates(os.path.abspath(sys.argv[2]), home, count)
+                measure_sets(os.path.abspath(sys.argv[2]), home, count)
 
 
 if __name__ == "__main__":

@@ -5,7 +5,7 @@ use Rattle.cf_core.proofs.Lemmas.{Becomes, Props, PropsBecome, Valued, and_from,
 use Rattle.cf_desired.specs.Whole.{Whole}
 use Rattle.std.specs.Prelude.{option_map}
 use Rattle.cf_core.proofs.{HidSeen.rest_itself, HidSeen.compared_rest, HidSeen.same_found, HidSeen.shape_before, Moving.written_is_to, AdvSteps.is_ahead, AdvSteps.goes_by, AdvSteps.none_begins, AdvSteps.advancing_goes_on, AdvSteps.HasBegunBy, AdvSteps.begins_ahead, AdvSteps.seen_still, Statuses.intended_way, Statuses.kept_way, HidProps.said_in_order, Cleanups.from_changed}
-use Rattle.cf_plan.proofs.RowsFound.{attrs_kept, found_there, hidden_less, id_kept, no_flaw_known, none_first, none_found, not_not, true_from, updates_one}
+use Rattle.cf_plan.proofs.RowsFound.{attrs_kept, found_there, hidden_less, id_kept, no_flaw_known, none_first, none_found, not_not, row_found, true_from, updates_one}
 use Rattle.cf_core.specs.Written as to
 use Rattle.cf_desired.specs.declared.wanted.Evaluated.TheVariants.{Known as evaluated}
 
@@ -215,15 +215,17 @@ module _ (schemas : List Schema) (s : StackState) (source : Source) (a : IsAdvan
   pub record IsSaid (path k : List ℕ) (props : List (List ℕ × Data)) : Type 0 where
     pub member : Member
     pub kind : member.kind ≡ k
-    at : path ≡ member.path
-    was : Props
-    now : Props
-    becomes : Becomes was now
-    known : known_props_from now ≡ Some props
+    pub at : path ≡ member.path
+    pub was : Props
+    pub now : Props
+    pub becomes : Becomes was now
+    pub known : known_props_from now ≡ Some props
     same_kind : is_other_kind (resource_held member.path held) (wanted_of (member, evaluated was)) ≡ false
     row : (test : Row → Bool) → list_any test f.rows ≡ false → list_any test (row_list (row_for schemas (resource_held member.path held) (wanted_of (member, evaluated was)))) ≡ false
+    -- the change set has this row of it
+    pub told : find (λ r. bytes_eq member.path r.path) rows ≡ row_for schemas (resource_held member.path held) (wanted_of (member, evaluated was))
 
-  said : (path k : List ℕ) (props : List (List ℕ × Data)) → evaluated_at path s ≡ Known k props → IsSaid path k props
+  pub said : (path k : List ℕ) (props : List (List ℕ × Data)) → evaluated_at path s ≡ Known k props → IsSaid path k props
   said path k props e =
       let all : List Valued = valued_in source (seen_now s) (given_root source) shape in
       let w = is_found k props (wanted_at path (plan_by source shape (seen_now s))) (said_over path k props e) in
@@ -260,6 +262,7 @@ module _ (schemas : List Schema) (s : StackState) (source : Source) (a : IsAdvan
         known = ys.2;
         same_kind = row.kind (evaluated xs.0) found_row;
         row = row.rows (evaluated xs.0) found_row;
+        told = row_found schemas held [] [] source m row (evaluated xs.0) found_row;
       }
 
   -- a path that is not done was not updated, and so its resource is as it was
@@ -304,22 +307,22 @@ module _ (schemas : List Schema) (s : StackState) (source : Source) (a : IsAdvan
     pub was : IsHeldAt path h
     was = was_held path h at_path
 
-    abbrev b : Held
+    abbrev pub b : Held
     b = was.before
 
     was_before : IsAsBefore b h
     was_before = a.unchanged b h was.in_before was.in_held was.same.physical (not_updated path b was.in_before was.at undone)
 
-    abbrev w : Wanted
+    abbrev pub w : Wanted
     w = wanted_of (it.member, evaluated it.was)
 
-    resource : resource_held it.member.path held ≡ Some (held_as b)
+    pub resource : resource_held it.member.path held ≡ Some (held_as b)
     resource = ap (λ p. resource_held p held) (sym it.at) ∙ same_found path s.before ∙ ap (option_map held_as) was.of_before
 
     pub one_kind : h.kind ≡ it.member.kind
     one_kind = was.same.kind ∙ (bytes_eq-Decides b.kind it.member.kind).0 (not_not (bytes_eq b.kind it.member.kind) (sym (ap (λ o. is_other_kind o w) resource) ∙ it.same_kind))
 
-    abbrev details : List Detail
+    abbrev pub details : List Detail
     details = property_details (found it.member.kind schemas) b.props it.was
 
     -- no detail may replace where the id is not hidden, none is of a property where the attributes are not
@@ -337,11 +340,11 @@ module _ (schemas : List Schema) (s : StackState) (source : Source) (a : IsAdvan
         (it.row (λ r. bytes_eq w.path r.path && row_hides_attrs r) (none_found (λ r. bytes_eq w.path r.path && row_hides_attrs r) f.rows held f.seen (subst (λ p. hides_attrs rows p ≡ false) it.at n)))) in
         (none_first is_property details (policy_details (held_as b) w) kept.0, kept.1)
 
-    difference_is : difference_to schemas h props ≡ option_map_or (λ g. difference_of g b.props props) (found it.member.kind schemas) Update
+    pub difference_is : difference_to schemas h props ≡ option_map_or (λ g. difference_of g b.props props) (found it.member.kind schemas) Update
     difference_is = ap (λ ps. option_map_or (λ g. difference_of g ps props) (found h.kind schemas) Update) was_before.props ∙ ap (λ n. option_map_or (λ g. difference_of g b.props props) (found n schemas) Update) one_kind
 
     -- so no new resource is wanted
-    none_new : list_any (λ d. not (is_never d.recreation)) details ≡ false → WantsNew schemas s (Some h) props → ⊥
+    pub none_new : list_any (λ d. not (is_never d.recreation)) details ≡ false → WantsNew schemas s (Some h) props → ⊥
     none_new none r =
         by_schema (found it.member.kind schemas) none
         (elim r [ inl d ↦ inl (sym difference_is ∙ d) | inr d ↦ inr (sym difference_is ∙ d.0) ])

@@ -47,3 +47,9 @@ pub mod FewUnmade
 pub mod FewMade
 pub mod FewLeft
 pub mod FewCalls
+pub mod ToldRows
+pub mod ToldCalls
+pub mod ToldMade
+pub mod ToldCleanup
+pub mod ToldRemoved
+pub mod ToldDone

@@ -93,7 +93,7 @@ update_is_whole schemas x out number why name s t source w differs a shape =
 pub nothing_held : (bs hs : List Held) → AreSameThings bs hs → bs ≡ [] → hs ≡ []
 nothing_held bs hs v2 e = grind arith
 
-completes :
+pub completes :
     (schemas : List Schema) (name : List ℕ) (x : World) (s : StackState) (state : Status) → EndsAs schemas name x s state Status.CreateComplete
     → ¬ HasFailed schemas name x s × AllDone s
 completes schemas name x s state e = grind arith

@@ -29,3 +29,4 @@ pub mod Theorem
 pub mod More
 pub mod Turned
 pub mod FewCalls
+pub mod Foretold

@@ -7,6 +7,7 @@ mod blaming;
 mod completing;
 mod events;
 mod fitting;
+mod foretold;
 mod hiding;
 mod laws;
 mod more;
@@ -26,6 +27,9 @@ pub use completing::{
 };
 pub use events::{held_is_live, lanes_keep, opened_keeps, repeat_keeps, settle_keeps};
 pub use fitting::{each_is_written, fits_kept};
+pub use foretold::{
+    begun_is_told, calls_are_told, cleanup_is_told, completed_is_told, made_is_told,
+};
 pub use hiding::{
     described_is_kept, intended_is_hidden, none_is_ordered, order_stays, rest_begins_seen,
     rest_stays_seen, said_is_in_order, shape_stays_advancing, start_is_described,

@@ -52,6 +52,13 @@ const USAGE: &str = "usage: cfstack [--progress] HOME WORKERS WORD ..\
 \n  events STACK       tell what became of the stack, a line for each entry of the\
 \n                     journal that concerns it\
 \n  list               tell all stacks that are not deleted\
+\n  create-change-set STACK TEMPLATE NAME=VALUE ..\
+\n                     tell what deploy with these words would change, and keep it\
+\n                     as a change set of the stack\
+\n  describe-change-set STACK NUMBER\
+\n                     tell the change set\
+\n  execute-change-set STACK NUMBER\
+\n                     do what the change set tells\
 \n  validate TEMPLATE  say whether the template HOME/templates/TEMPLATE can be read\
 \n\
 \nexits:\

@@ -1,4 +1,5 @@
--- The reports on a stack, on one of the load mode, on what became of a stack, and on all stacks (this project's own).
+-- The reports on a stack, on one of the load mode, on what became of a stack, and on all stacks (this project's own; that on a change set
+-- is in `SetReport`).
 use Rattle.std.specs.Prelude.{ℕ, ◌==◌, Bool, true, false, ◌&&◌, ◌||◌, List, [], ◌∷◌, ◌++◌, Option, Some, None, fold, length, decimal, codes, option_and_then, if◌then◌else◌}
 use Rattle.std.specs.List.{flat_map}
 use Rattle.std.specs.Option.{option_or, option_map_or, unwrap_or}

@@ -8,6 +8,7 @@ use Rattle.cf_funcs.specs.Pieces.{cut_at, pieces_of}
 use Rattle.cf_tree.specs.Keys.{put, value_at}
 use Rattle.cf_tree.specs.Lists.{is_among}
 use Rattle.cf_template.specs.Words.{is_name}
+use Rattle.cf_funcs.specs.Number.{digits_of}
 use Rattle.cf_face.specs.declared.words.Choice.{Choice}
 use Rattle.cf_face.specs.declared.words.Command.{Command}
 use Rattle.cf_face.specs.declared.words.Command.TheVariants as command
@@ -47,11 +48,45 @@ given_beside (word ∷ words) given =
 abbrev pub given_of : List (List ℕ) → Option (List (List ℕ × List ℕ))
 given_of words = given_beside words []
 
+-- a stack, and a template with what is given for its parameters: STACK TEMPLATE NAME=VALUE ..
+abbrev pub chosen_in : List (List ℕ) → Option (List ℕ × Choice)
+chosen_in (stack ∷ template ∷ settings) =
+    if is_stack_name stack && is_template_name template
+    then option_map (λ given. (stack, record { template = template; given = given })) (given_of settings) else None
+chosen_in _ = None
+
 -- `deploy STACK TEMPLATE NAME=VALUE ..`
 abbrev pub deploy_of : List (List ℕ) → Option Command
-deploy_of (stack ∷ template ∷ settings) =
-    if is_stack_name stack && is_template_name template then option_map (command.Deploy stack template) (given_of settings) else None
-deploy_of _ = None
+deploy_of words = option_map (λ c. command.Deploy c.0 c.1.template c.1.given) (chosen_in words)
+
+-- `create-change-set STACK TEMPLATE NAME=VALUE ..`
+abbrev pub create_set_of : List (List ℕ) → Option Command
+create_set_of words = option_map (λ c. command.CreateSet c.0 c.1.template c.1.given) (chosen_in words)
+
+-- the number of a change set: 1 to 18 digits, the first of them no 0 (48) (this project's own)
+abbrev pub set_number_of : List ℕ → Option ℕ
+set_number_of [] = None
+set_number_of (d ∷ ds) = if d == 48 then None else digits_of 18 (d ∷ ds)
+
+-- a stack and the number of one of its change sets: STACK NUMBER
+abbrev pub set_in_words : List (List ℕ) → Option (List ℕ × ℕ)
+set_in_words (stack ∷ number ∷ []) = if is_stack_name stack then option_map (λ n. (stack, n)) (set_number_of number) else None
+set_in_words _ = None
+
+-- `describe-change-set STACK NUMBER`
+abbrev pub describe_set_of : List (List ℕ) → Option Command
+describe_set_of words = option_map (λ s. command.DescribeSet s.0 s.1) (set_in_words words)
+
+-- `execute-change-set STACK NUMBER`
+abbrev pub execute_set_of : List (List ℕ) → Option Command
+execute_set_of words = option_map (λ s. command.ExecuteSet s.0 s.1) (set_in_words words)
+
+-- the commands on change sets
+abbrev pub set_command_of : List ℕ → List (List ℕ) → Option Command
+set_command_of word words =
+    if bytes_eq (codes "create-change-set") word then create_set_of words
+    else (if bytes_eq (codes "describe-change-set") word then describe_set_of words
+    else (if bytes_eq (codes "execute-change-set") word then execute_set_of words else None))
 
 -- a path: names of resources and nested stacks, joined by `/` (this project's own)
 abbrev pub is_path : List ℕ → Bool
@@ -132,13 +167,16 @@ command_of (word ∷ words) =
     else (if bytes_eq (codes "describe") word then describe_of words
     else (if bytes_eq (codes "events") word then events_of words
     else (if bytes_eq (codes "list") word then list_of words
-    else (if bytes_eq (codes "validate") word then validate_of words else None)))))))
+    else (if bytes_eq (codes "validate") word then validate_of words else set_command_of word words)))))))
 
 -- whether a command changes a stack, and so drives handlers
 abbrev pub drives : Command → Bool
 drives (command.Deploy stack template given) = true
 drives (command.ContinueRollback stack paths) = true
 drives (command.Resume stack) = true
+drives (command.ExecuteSet stack number) = true
+drives (command.CreateSet stack template given) = false
+drives (command.DescribeSet stack number) = false
 drives (command.Load count) = true
 drives (command.Describe stack) = false
 drives (command.Events stack) = false
@@ -150,15 +188,19 @@ abbrev pub task_of : Command → Option (List ℕ × Task)
 task_of (command.Deploy stack template given) = Some (stack, task.Deploy (record { template = template; given = given }))
 task_of (command.ContinueRollback stack paths) = Some (stack, task.Continue paths)
 task_of (command.Resume stack) = Some (stack, task.Resume)
+task_of (command.ExecuteSet stack number) = Some (stack, task.Execute number)
 task_of (command.Load count) = Some (load_name count, task.Load count)
 task_of _ = None
 
--- what a command asks that drives no handlers: a template of the library, or the journal
+-- what a command asks that drives no handlers: a template of the library, the journal, or what a template would change of a stack
 abbrev pub question_of : Command → Option Question
 question_of (command.Describe stack) = Some (question.Tell (subject.Stack stack))
 question_of (command.Events stack) = Some (question.Tell (subject.Events stack))
 question_of command.List = Some (question.Tell subject.Stacks)
+question_of (command.DescribeSet stack number) = Some (question.Tell (subject.Set stack number))
 question_of (command.Validate template) = Some (question.Validate template)
+question_of (command.CreateSet stack template given) =
+    Some (question.Review stack (record { template = template; given = given }))
 question_of _ = None
 
 -- the number of workers that a word names: a decimal number from 1 to 64 without a leading zero, of one digit

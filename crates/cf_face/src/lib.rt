@@ -3,6 +3,7 @@
 #![tactic(auto)]
 
 mod cause;
+mod changes;
 mod exit;
 mod fault_words;
 mod line;
@@ -11,9 +12,11 @@ mod overview;
 mod parameters;
 mod print;
 mod rows;
+mod set_words;
 mod telling;
 mod words;
 
+pub use changes::set_report;
 pub use exit::{Exit, Refusal, StackFault};
 pub use load::load_report;
 pub use overview::{events_report, list_report};

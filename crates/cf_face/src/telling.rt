@@ -46,7 +46,7 @@ fn held_status_name(status: HeldStatus) -> &'static str
 }
 
 /// Adds that a resource's live properties are not known, where they are not.
-fn push_unsure(report: &mut String, unsure: bool) -> Result<(), NoMemory>
+pub fn push_unsure(report: &mut String, unsure: bool) -> Result<(), NoMemory>
     ensures { IfOk result (λ _. string_bytes report.new ≡ string_bytes report.old ++ spaced (unsure_words unsure)) }
 {
     if unsure {

@@ -4,9 +4,10 @@ ghost use Rattle.std.specs.Prelude.{◌≡◌, IfOk, map, option_map, string_byt
 ghost use Rattle.std.specs.Char.{is_ascii_alphanumeric};
 ghost use Rattle.std.specs.List.{list_all};
 ghost use Rattle.cf_template.specs.Words.{is_name};
-ghost use Rattle.cf_face.specs.declared.words.Command.TheVariants.{ContinueRollback, Deploy};
-ghost use Rattle.cf_face.specs.Words.{command_of, continue_of, drives, workers_of, deploy_of, describe_of, events_of, list_of, resume_of, validate_of, setting_in_word, given_of, is_path, is_stack_name, is_template_name, is_name_byte, paths_of, question_of, task_of, load_choice, load_count_of, load_name, load_of};
+ghost use Rattle.cf_face.specs.declared.words.Command.TheVariants.{ContinueRollback};
+ghost use Rattle.cf_face.specs.Words.{chosen_in, command_of, continue_of, drives, workers_of, deploy_of, describe_of, events_of, list_of, resume_of, validate_of, setting_in_word, given_of, is_path, is_stack_name, is_template_name, is_name_byte, paths_of, question_of, task_of, load_choice, load_count_of, load_name, load_of};
 
+use crate::set_words::read_set_words;
 use cf_funcs::{cut, split};
 use cf_tree::{Names, NoMemory, Pairs, Txt};
 use std::alloc::Global;
@@ -30,6 +31,8 @@ pub enum Task {
     Continue(Names),
     /// End the operation that is in progress on it.
     Resume,
+    /// Do what its change set of this number tells.
+    Execute(u64),
     /// Create it by the template of the load mode with so many records, or update it by that.
     Load(u32),
 }
@@ -43,6 +46,8 @@ pub enum Subject {
     Events(Txt),
     /// All stacks that are not deleted.
     Stacks,
+    /// The change set of this number of the stack of this name.
+    Set(Txt, u64),
 }
 
 /// What a command asks that drives no handlers.
@@ -52,6 +57,8 @@ pub enum Question {
     Validate(Txt),
     /// What the journal tells.
     Tell(Subject),
+    /// What a template would change of the stack of this name, which is kept as a change set.
+    Review(Txt, Choice),
 }
 
 /// What a command line asks for.
@@ -90,6 +97,22 @@ pub enum Command {
     Validate {
         template: Txt,
     },
+    /// `create-change-set STACK TEMPLATE NAME=VALUE ..`: keep what the template would change of the stack as a change set.
+    CreateSet {
+        stack: Txt,
+        template: Txt,
+        given: Pairs,
+    },
+    /// `describe-change-set STACK NUMBER`: report on the change set of this number.
+    DescribeSet {
+        stack: Txt,
+        number: u64,
+    },
+    /// `execute-change-set STACK NUMBER`: do what the change set of this number tells.
+    ExecuteSet {
+        stack: Txt,
+        number: u64,
+    },
 }
 
 impl Command {
@@ -101,11 +124,14 @@ impl Command {
             Command::Deploy { .. }
             | Command::ContinueRollback { .. }
             | Command::Resume { .. }
-            | Command::Load { .. } => true,
+            | Command::Load { .. }
+            | Command::ExecuteSet { .. } => true,
             Command::Describe { .. }
             | Command::Events { .. }
             | Command::List
-            | Command::Validate { .. } => false,
+            | Command::Validate { .. }
+            | Command::CreateSet { .. }
+            | Command::DescribeSet { .. } => false,
         }
     }
 
@@ -125,11 +151,18 @@ impl Command {
             } => Ok(Some((stack, Task::Deploy(Choice { template, given })))),
             Command::ContinueRollback { stack, paths } => Ok(Some((stack, Task::Continue(paths)))),
             Command::Resume { stack } => Ok(Some((stack, Task::Resume))),
+            Command::ExecuteSet { stack, number } => Ok(Some((stack, Task::Execute(number)))),
             Command::Load { count } => Ok(Some((load_name(alloc, count)?, Task::Load(count)))),
             Command::Describe { stack: _ }
             | Command::Events { stack: _ }
             | Command::List
-            | Command::Validate { template: _ } => Ok(None),
+            | Command::Validate { template: _ }
+            | Command::DescribeSet { stack: _, .. } => Ok(None),
+            Command::CreateSet {
+                stack: _,
+                template: _,
+                given: _,
+            } => Ok(None),
         }
     }
 
@@ -141,7 +174,15 @@ impl Command {
             Command::Describe { stack } => Some(Question::Tell(Subject::Stack(stack))),
             Command::Events { stack } => Some(Question::Tell(Subject::Events(stack))),
             Command::List => Some(Question::Tell(Subject::Stacks)),
+            Command::DescribeSet { stack, number } => {
+                Some(Question::Tell(Subject::Set(stack, number)))
+            }
             Command::Validate { template } => Some(Question::Validate(template)),
+            Command::CreateSet {
+                stack,
+                template,
+                given,
+            } => Some(Question::Review(stack, Choice { template, given })),
             Command::Deploy {
                 stack: _,
                 template: _,
@@ -149,7 +190,8 @@ impl Command {
             } => None,
             Command::ContinueRollback { stack: _, paths: _ }
             | Command::Resume { stack: _ }
-            | Command::Load { count: _ } => None,
+            | Command::Load { count: _ }
+            | Command::ExecuteSet { stack: _, .. } => None,
         }
     }
 }
@@ -159,7 +201,8 @@ impl Command {
 /// A stack's name is a letter, then letters, digits and `-`, at most 128 of them. A template's name has
 /// 1 to 128 bytes. What is given for a parameter is cut at the first `=`: the name before it has 1 to 255 letters and
 /// digits and stands once, the value behind it may be empty. A path is names of 1 to 255 letters and digits, joined by `/`,
-/// and stands once. The number of records of a load is decimal, from 1 to 500 without a leading zero.
+/// and stands once. The number of records of a load is decimal, from 1 to 500 without a leading zero. The number of a change set has 1 to
+/// 18 digits, of which the first is no 0.
 ///
 /// # Errors
 ///
@@ -194,7 +237,7 @@ pub fn read_words(alloc: Global, words: &[Txt]) -> Result<Option<Command>, NoMem
     if word.is("validate") {
         return read_validate(alloc, rest);
     }
-    Ok(None)
+    read_set_words(alloc, word, rest)
 }
 
 /// The number of workers that a word names, and None exactly where the word is no decimal number from 1 to
@@ -216,34 +259,48 @@ pub fn read_workers(word: &Txt) -> Option<u32>
 fn read_deploy(alloc: Global, words: &[Txt]) -> Result<Option<Command>, NoMemory>
     ensures { IfOk result (λ command. command ≡ deploy_of words.now) }
 {
-    let Some((stack, rest)) = words.split_first() else {
-        return Ok(None);
-    };
-    let Some((template, settings)) = rest.split_first() else {
-        return Ok(None);
-    };
-    if is_stack_name(stack.as_str()) && is_template_name(template.as_str()) {
-        deployment(alloc, stack, template, settings)
-    } else {
-        Ok(None)
+    match read_choice(alloc, words)? {
+        Some((stack, Choice { template, given })) => Ok(Some(Command::Deploy {
+            stack,
+            template,
+            given,
+        })),
+        None => Ok(None),
     }
 }
 
-// The deployment of a stack from a template, if the other words give parameters.
-fn deployment(
+/// The stack, the template and what is given for its parameters, as words name them.
+///
+/// # Errors
+///
+/// Only for want of memory.
+pub(crate) fn read_choice(alloc: Global, words: &[Txt]) -> Result<Option<(Txt, Choice)>, NoMemory>
+    ensures { IfOk result (λ chosen. chosen ≡ chosen_in words.now) }
+{
+    match words {
+        [stack, template, settings @ ..]
+            if is_stack_name(stack.as_str()) && is_template_name(template.as_str()) => {
+            choose(alloc, stack, template, settings)
+        }
+        _ => Ok(None),
+    }
+}
+
+// The choice of a template for a stack, if the other words give parameters.
+fn choose(
     alloc: Global,
     stack: &Txt,
     template: &Txt,
     settings: &[Txt],
-) -> Result<Option<Command>, NoMemory>
-    ensures { IfOk result (λ command. command ≡ option_map (Deploy stack.now template.now) (given_of settings.now)) }
+) -> Result<Option<(Txt, Choice)>, NoMemory>
+    ensures { IfOk result (λ chosen. chosen ≡ option_map (λ given. (stack.now, record { template = template.now; given = given })) (given_of settings.now)) }
 {
     match read_given(alloc, settings)? {
-        Some(given) => Ok(Some(Command::Deploy {
-            stack: stack.try_clone(alloc)?,
-            template: template.try_clone(alloc)?,
-            given,
-        })),
+        Some(given) => {
+            let stack = stack.try_clone(alloc)?;
+            let template = template.try_clone(alloc)?;
+            Ok(Some((stack, Choice { template, given })))
+        }
         None => Ok(None),
     }
 }
@@ -479,7 +536,8 @@ fn read_validate(alloc: Global, words: &[Txt]) -> Result<Option<Command>, NoMemo
     }
 }
 
-fn is_stack_name(name: &str) -> bool
+/// Whether a word is the name of a stack.
+pub(crate) fn is_stack_name(name: &str) -> bool
     ensures { result ≡ is_stack_name name.now }
 {
     let bytes = name.as_bytes();

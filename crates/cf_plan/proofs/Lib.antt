@@ -46,6 +46,8 @@ pub mod DoneFound
 pub mod FailedFound
 pub mod PropsStay
 pub mod RowsFound
+pub mod Replaces
+pub mod NamedRows
 pub mod WholeFound
 pub mod InFlight
 mod NameSets

@@ -217,9 +217,9 @@ known_are ((n, Some d) ∷ ys) ps e =
     let rest = unmapped (λ rest. (n, d) ∷ rest) (known_props_from ys) ps e in ap (λ qs. (n, Some d) ∷ qs) (known_are ys rest.0 rest.1) ∙ ap (map known_as) rest.2
 
 -- what was known under a name is known at last, and nothing comes under a name that there was not
-record IsKnownAs (o : Option (Option tree.Data)) (p : Option tree.Data) : Type 0 where
-  gone : o ≡ None → p ≡ None
-  same : (d : tree.Data) → o ≡ Some (Some d) → p ≡ Some d
+pub record IsKnownAs (o : Option (Option tree.Data)) (p : Option tree.Data) : Type 0 where
+  pub gone : o ≡ None → p ≡ None
+  pub same : (d : tree.Data) → o ≡ Some (Some d) → p ≡ Some d
 
 none_known : (p : Option tree.Data) → IsKnownAs (Some None) p
 none_known p = record { gone = λ e. (let no : ⊥ = cc in absurd no); same = λ d e. (let no : ⊥ = cc in absurd no) }
@@ -231,7 +231,7 @@ known_if : (b : Bool) (o u : Option (Option tree.Data)) (p v : Option tree.Data)
 known_if true o u p v h k = h
 known_if false o u p v h k = k
 
-is_known_as : (xs ys : Props) (ps : List (List ℕ × tree.Data)) → Becomes xs ys → known_props_from ys ≡ Some ps → (name : List ℕ) → IsKnownAs (value_at name xs) (value_at name ps)
+pub is_known_as : (xs ys : Props) (ps : List (List ℕ × tree.Data)) → Becomes xs ys → known_props_from ys ≡ Some ps → (name : List ℕ) → IsKnownAs (value_at name xs) (value_at name ps)
 is_known_as [] [] ps no_props e name =
     subst (λ qs. IsKnownAs None (value_at name qs)) (some_is [] ps e) (record { gone = λ q. refl; same = λ d q. (let no : ⊥ = cc in absurd no) })
 is_known_as [] (y ∷ ys) ps h e name = elim h [ ]
@@ -395,7 +395,7 @@ value_is o q p h k = elim (are_same o q h) [
   | inr s ↦ k.same s.0 s.2 ∙ sym s.1
 ]
 
-no_value_differs : (o : Option tree.Data) → value_differs o o ≡ false
+pub no_value_differs : (o : Option tree.Data) → value_differs o o ≡ false
 no_value_differs None = refl
 no_value_differs (Some d) = ap not ((same_decides d d).1 refl)
 

@@ -20,6 +20,7 @@ mod work;
 
 pub use held::held_of;
 pub use laws::{first_deployment, used_suffice};
-pub use preparing::prepare;
+pub use preparing::{prepare, set_of};
 pub use refusals::status_refusal;
+pub use stack::set_in;
 pub use wish::{Order, PrepareFault, StackFault, Wish};

@@ -292,8 +292,8 @@ fn execute_set(
     }
 }
 
-/// The change set of a number of the stack of a name.
-fn set_of<'a>(world: &'a World, name: &Txt, number: u64) -> Option<&'a KeptSet>
+/// The change set of a number of the stack of a name, if there are both.
+pub fn set_of<'a>(world: &'a World, name: &Txt, number: u64) -> Option<&'a KeptSet>
     ensures { option_copied result ≡ set_of number (known_stack name.now world.now.world) }
 {
     match world.stack(name.as_str()) {

@@ -91,7 +91,7 @@ pub(crate) fn creating_number(world: &World, name: &Txt) -> Result<u64, AllocErr
 }
 
 /// The change set of a number among those of a stack.
-pub(crate) fn set_in(sets: &[KeptSet], number: u64) -> Option<&KeptSet>
+pub fn set_in(sets: &[KeptSet], number: u64) -> Option<&KeptSet>
     ensures { option_copied result ≡ find (λ k. number == k.number) sets.now }
 {
     sets.iter().find(|set| set.number == number)

@@ -4,7 +4,8 @@ use crate::library::Library;
 use crate::line::Line;
 use crate::spelled::{add_entry, add_names, add_props, add_request, add_source, why_word};
 use crate::words::Words;
-use cf_face::{Exit, report};
+use cf_face::{Exit, report, set_report};
+use cf_prepare::set_in;
 use cf_stacks::{
     Call, HeardEntry, Held, HeldStatus, KeptSet, Outputs, Settled, StackState, call_with,
 };
@@ -250,6 +251,19 @@ fn add_report(line: &mut Line, words: &mut Words, name: &Txt, stack: &StackState
     drop(exit);
 }
 
+/// The report on the change set of a number; nothing where there is none.
+fn add_set_report(line: &mut Line, name: &Txt, stack: &StackState, number: u64) {
+    if let Some(set) = set_in(stack.sets().as_slice(), number) {
+        let exit = Exit::Done;
+        let rows = set.rows.as_slice();
+        add_lines(
+            line,
+            set_report(line.alloc, name, number, rows, set.outputs, &exit),
+        );
+        drop(exit);
+    }
+}
+
 /// What is asked of a stack.
 pub fn add_stack(
     line: &mut Line,
@@ -280,6 +294,7 @@ pub fn add_stack(
                 add_set(line, set);
             }
         }
+        "set" => add_set_report(line, name, stack, words.number()),
         "events" => add_events(line, stack),
         "entries" => add_entries(line, library, stack),
         "calls" => add_calls(line, stack),

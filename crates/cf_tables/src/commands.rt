@@ -25,7 +25,7 @@ fn command_text(told: &mut Told, command: &Command) {
             stack,
             template,
             given,
-        } => deployment(told, stack, template, given),
+        } => chosen(told, "deploy ", stack, template, given),
         Command::ContinueRollback { stack, paths } => continuation(told, stack, paths),
         Command::Resume { stack } => told.named("resume ", stack),
         Command::Load { count } => {
@@ -36,12 +36,30 @@ fn command_text(told: &mut Told, command: &Command) {
         Command::Events { stack } => told.named("events ", stack),
         Command::List => told.put("list"),
         Command::Validate { template } => told.named("validate ", template),
+        Command::CreateSet {
+            stack,
+            template,
+            given,
+        } => chosen(told, "create-change-set ", stack, template, given),
+        Command::DescribeSet { stack, number } => {
+            numbered_set(told, "describe-change-set ", stack, *number)
+        }
+        Command::ExecuteSet { stack, number } => {
+            numbered_set(told, "execute-change-set ", stack, *number)
+        }
     }
 }
 
-/// A deployment, with what is given by name.
-fn deployment(told: &mut Told, stack: &Txt, template: &Txt, given: &Pairs) {
-    told.named("deploy ", stack);
+/// A command on a change set of a stack.
+fn numbered_set(told: &mut Told, command: &str, stack: &Txt, number: u64) {
+    told.named(command, stack);
+    told.put(" ");
+    told.number(number);
+}
+
+/// A command on a template for a stack, with what is given by name.
+fn chosen(told: &mut Told, command: &str, stack: &Txt, template: &Txt, given: &Pairs) {
+    told.named(command, stack);
     told.named(" ", template);
     for pair in given.as_slice() {
         told.word(pair.0.as_str());

@@ -1,4 +1,4 @@
--- What a deployment orders, from what was found in the library.
+-- What a deployment or a review orders, from what was found in the library.
 use Rattle.std.proofs.Common.{◌≡◌, inl, inr, ℕ, Bool, cond, List, option_map, Some, None, Result, Ok, Err, refl, sym, ap, subst}
 use Rattle.cf_tree.specs.Counts.{HasRisen}
 use Rattle.cf_schema.specs.declared.described.Schema.{Schema}
@@ -14,24 +14,22 @@ use Rattle.cf_face.specs.declared.exit.Exit.TheVariants as exit
 use Rattle.cf_face.specs.declared.exit.Refusal.TheVariants as refusal
 use Rattle.cf_load.specs.Text.{load_text}
 use Rattle.cf_plan.proofs.Listed.{same_bytes}
-use Rattle.cf_top.specs.Refusals.{IsRefusedFor, IsUnasked, LibraryUse, RefusesTemplate, TestsTemplate, deployed_source, deployment_refusal}
-use Rattle.cf_top.specs.Tasks.{FindsOrder, IsDeploymentOf, RefusesDeployment, load_library, status_refusal}
+use Rattle.cf_top.specs.Refusals.{IsRefusedFor, IsUnasked, LibraryUse, RefusesChoice, RefusesTemplate, TestsTemplate, chosen_refusal, deployed_source}
+use Rattle.cf_top.specs.Tasks.{FindsChoice, FindsOrder, IsOrderOf, load_library, status_refusal}
+use Rattle.cf_top.specs.declared.planning.Purpose.{Purpose}
+use Rattle.cf_top.specs.declared.planning.Purpose.TheVariants as purpose
 use Rattle.cf_top.proofs.Early.{asked}
 use Rattle.cf_top.proofs.Ordered.{deploys_prepared}
 use Rattle.cf_top.proofs.Tested.{told_or_short}
 
--- a deployment whose stack's status does not refuse it
-module _ (o : LibraryUse) (schemas : List Schema) (x : World) (stack : List ℕ) (choice : Choice) (free : status_refusal stack x ≡ None) where
-  pub refused : (e : Exit) → IsRefusedFor o schemas x stack choice e → FindsOrder o schemas x stack (Deploy choice) (Err e)
-  refused e r = subst (λ b. RefusesDeployment o schemas x stack choice b e) (sym free) r
-
+module _ (o : LibraryUse) (p : Purpose) (schemas : List Schema) (x : World) (stack : List ℕ) (choice : Choice) where
   tested : (bytes : List ℕ) (e : Exit) → StandsUnder o.texts choice.template (Some bytes)
-      → TestsTemplate (deployment_refusal schemas x stack choice (Some bytes)) (IsDeploymentOf schemas x stack choice bytes) (Err e)
-      → IsRefusedFor o schemas x stack choice e
+      → TestsTemplate (chosen_refusal p schemas x stack choice (Some bytes)) (IsOrderOf p schemas x stack choice bytes) (Err e)
+      → IsRefusedFor o p schemas x stack choice e
   tested bytes (exit.TemplateRefused fault) st t = (Some bytes, st, t, tt)
   tested bytes (exit.StackRefused fault) st t = (Some bytes, st, t, tt)
   tested bytes exit.NoMemory st t = tt
-  tested bytes exit.LibraryFault st t = absurd (asked schemas x stack choice (Some bytes) exit.LibraryFault t)
+  tested bytes exit.LibraryFault st t = absurd (asked p schemas x stack choice (Some bytes) exit.LibraryFault t)
   tested bytes exit.Done st t = (Some bytes, st, t, tt)
   tested bytes exit.BadWords st t = (Some bytes, st, t, tt)
   tested bytes (exit.RolledBack cause) st t = (Some bytes, st, t, tt)
@@ -47,22 +45,28 @@ module _ (o : LibraryUse) (schemas : List Schema) (x : World) (stack : List ℕ)
 
   -- what was found there is tested
   pub fetched : (bytes : List ℕ) (result : Result Order Exit) → StandsUnder o.texts choice.template (Some bytes)
-      → TestsTemplate (deployment_refusal schemas x stack choice (Some bytes)) (IsDeploymentOf schemas x stack choice bytes) result
-      → FindsOrder o schemas x stack (Deploy choice) result
-  fetched bytes (Ok ordered) st t = (
-    record { free = free; bytes = bytes; stands = st; sound = t.0; deploys = t.1.0 },
-    λ apart opened. deploys_prepared schemas x stack (deployed_source stack choice bytes) ordered t.1.0 t.1.1,
-  )
-  fetched bytes (Err e) st t = refused e (tested bytes e st t)
+      → TestsTemplate (chosen_refusal p schemas x stack choice (Some bytes)) (IsOrderOf p schemas x stack choice bytes) result
+      → FindsChoice o p schemas x stack choice result
+  fetched bytes (Ok ordered) st t = record { bytes = bytes; stands = st; sound = t.0; is_order = t.1 }
+  fetched bytes (Err e) st t = tested bytes e st t
 
   -- the library holds none of the name
   pub missed : (e : Exit) → StandsUnder o.texts choice.template None → HasRisen o.misses o.misses' → RefusesTemplate (refusal.Plan (TemplateMissing choice.template)) e
-      → FindsOrder o schemas x stack (Deploy choice) (Err e)
+      → FindsChoice o p schemas x stack choice (Err e)
   missed e st r f =
-      refused e (elim (told_or_short (refusal.Plan (TemplateMissing choice.template)) e f) [
-        | inl t ↦ subst (IsRefusedFor o schemas x stack choice) (sym t) (None, st, refl, r)
-        | inr t ↦ subst (IsRefusedFor o schemas x stack choice) (sym t) tt
-      ])
+      elim (told_or_short (refusal.Plan (TemplateMissing choice.template)) e f) [
+        | inl t ↦ subst (IsRefusedFor o p schemas x stack choice) (sym t) (None, st, refl, r)
+        | inr t ↦ subst (IsRefusedFor o p schemas x stack choice) (sym t) tt
+      ]
+
+-- a deployment whose stack's status does not refuse it
+pub deployed : (o : LibraryUse) (schemas : List Schema) (x : World) (stack : List ℕ) (choice : Choice) → status_refusal stack x ≡ None → (result : Result Order Exit)
+    → FindsChoice o purpose.Deploy schemas x stack choice result → FindsOrder o schemas x stack (Deploy choice) result
+deployed o schemas x stack choice free (Ok ordered) d = (
+  record { free = free; bytes = d.bytes; stands = d.stands; sound = d.sound; deploys = (d.is_order).0 },
+  λ apart opened. deploys_prepared schemas x stack (deployed_source stack choice d.bytes) ordered (d.is_order).0 (d.is_order).1,
+)
+deployed o schemas x stack choice free (Err e) r = subst (λ b. RefusesChoice o purpose.Deploy schemas x stack choice b e) (sym free) r
 
 -- the template of the load mode stands under its name
 pub load_stands : (count : ℕ) → StandsUnder (load_library count).texts (load_name count) (Some (load_text count))

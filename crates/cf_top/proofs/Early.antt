@@ -7,7 +7,7 @@ use Rattle.cf_tree.specs.declared.template.Template.{Template}
 use Rattle.cf_desired.specs.declared.flaw.Flaw.TheVariants.{TemplateMissing}
 use Rattle.cf_effect.specs.World.{World, known_stack}
 use Rattle.cf_plan.specs.Follow.{deploys_from}
-use Rattle.cf_prepare.specs.Refusals.{deploy_refusal, if_barred}
+use Rattle.cf_prepare.specs.Refusals.{if_barred}
 use Rattle.cf_prepare.specs.declared.wish.PrepareFault.{PrepareFault}
 use Rattle.cf_prepare.specs.declared.wish.PrepareFault.TheVariants as fault
 use Rattle.cf_prepare.specs.declared.wish.Wish.{Wish}
@@ -20,8 +20,10 @@ use Rattle.cf_face.specs.declared.exit.Exit.{Exit}
 use Rattle.cf_face.specs.declared.exit.Exit.TheVariants as exit
 use Rattle.cf_face.specs.declared.exit.Refusal.TheVariants as refusal
 use Rattle.cf_top.specs.NotYet.{is_not_yet}
-use Rattle.cf_top.specs.Refusals.{IsRefusedFor, LibraryUse, deployed_source, deployment_refusal, exit_of_fault, template_refusal}
-use Rattle.cf_top.specs.Tasks.{RefusesDeployment, RefusesTask, RefusesWish, load_library, status_refusal}
+use Rattle.cf_top.specs.Refusals.{IsRefusedFor, LibraryUse, RefusesChoice, chosen_refusal, deployed_source, exit_of_fault, source_refusal, template_refusal}
+use Rattle.cf_top.specs.Tasks.{RefusesTask, RefusesWish, load_library, status_refusal}
+use Rattle.cf_top.specs.declared.planning.Purpose.{Purpose}
+use Rattle.cf_top.specs.declared.planning.Purpose.TheVariants as purpose
 
 -- the exits of what is asked for
 abbrev pub IsAsked : Exit → Type 0
@@ -48,16 +50,16 @@ pub asked_option : (o : Option PrepareFault) (e : Exit) → option_map exit_of_f
 asked_option None e q = let no : ⊥ = cc in absurd no
 asked_option (Some f) e q = subst IsAsked (one_exit (exit_of_fault f) e q) (asked_fault f)
 
-pub asked : (schemas : List Schema) (x : World) (name : List ℕ) (choice : Choice) (found : Option (List ℕ)) (e : Exit) → deployment_refusal schemas x name choice found ≡ Some e → IsAsked e
-asked schemas x name choice None e q = subst IsAsked (one_exit (exit.TemplateRefused (refusal.Plan (TemplateMissing choice.template))) e q) tt
-asked schemas x name choice (Some bytes) e q = by (template_of bytes) q where
-  by : (r : Reading Template) → template_refusal schemas x name choice bytes r ≡ Some e → IsAsked e
-  by (Err f) p = subst IsAsked (one_exit (exit.TemplateRefused (refusal.Read choice.template f)) e p) tt
-  by (Ok t) p = late (is_not_yet t) p where
+pub asked : (p : Purpose) (schemas : List Schema) (x : World) (name : List ℕ) (choice : Choice) (found : Option (List ℕ)) (e : Exit) → chosen_refusal p schemas x name choice found ≡ Some e → IsAsked e
+asked p schemas x name choice None e q = subst IsAsked (one_exit (exit.TemplateRefused (refusal.Plan (TemplateMissing choice.template))) e q) tt
+asked p schemas x name choice (Some bytes) e q = by (template_of bytes) q where
+  by : (r : Reading Template) → template_refusal p schemas x name choice bytes r ≡ Some e → IsAsked e
+  by (Err f) k = subst IsAsked (one_exit (exit.TemplateRefused (refusal.Read choice.template f)) e k) tt
+  by (Ok t) k = late (is_not_yet t) k where
     late : (b : Bool) → cond b (Some (exit.TemplateRefused (refusal.NotYet choice.template)))
-        (option_map exit_of_fault (deploy_refusal schemas x name (deployed_source name choice bytes))) ≡ Some e → IsAsked e
+        (option_map exit_of_fault (source_refusal p schemas x name (deployed_source name choice bytes))) ≡ Some e → IsAsked e
     late true c = subst IsAsked (one_exit (exit.TemplateRefused (refusal.NotYet choice.template)) e c) tt
-    late false c = asked_option (deploy_refusal schemas x name (deployed_source name choice bytes)) e c
+    late false c = asked_option (source_refusal p schemas x name (deployed_source name choice bytes)) e c
 
 asked_early : (e : Exit) → IsAsked e → RefusesEarly e
 asked_early (exit.TemplateRefused f) a = tt
@@ -78,27 +80,27 @@ asked_early (exit.LaneFault lane) a = absurd a
 asked_early (exit.Full long need room) a = absurd a
 
 module _ (o : LibraryUse) (schemas : List Schema) (x : World) (name : List ℕ) where
-  early_for : (choice : Choice) (e : Exit) → IsRefusedFor o schemas x name choice e → RefusesEarly e
-  early_for choice exit.Done r = asked schemas x name choice r.0 exit.Done r.2
-  early_for choice (exit.RolledBack c) r = asked schemas x name choice r.0 (exit.RolledBack c) r.2
-  early_for choice (exit.Failed blamed) r = asked schemas x name choice r.0 (exit.Failed blamed) r.2
-  early_for choice exit.BadWords r = asked schemas x name choice r.0 exit.BadWords r.2
-  early_for choice exit.SinkFault r = asked schemas x name choice r.0 exit.SinkFault r.2
-  early_for choice (exit.TemplateRefused f) r = tt
-  early_for choice (exit.StackRefused f) r = tt
-  early_for choice exit.LibraryFault r = tt
-  early_for choice exit.NoMemory r = tt
-  early_for choice exit.DiskFault r = asked schemas x name choice r.0 exit.DiskFault r.2
-  early_for choice (exit.NotAJournal offset) r = asked schemas x name choice r.0 (exit.NotAJournal offset) r.2
-  early_for choice (exit.LaneMissing lane) r = asked schemas x name choice r.0 (exit.LaneMissing lane) r.2
-  early_for choice (exit.LaneTwice lane) r = asked schemas x name choice r.0 (exit.LaneTwice lane) r.2
-  early_for choice (exit.LaneAhead lane f epoch) r = asked schemas x name choice r.0 (exit.LaneAhead lane f epoch) r.2
-  early_for choice (exit.LaneFault lane) r = asked schemas x name choice r.0 (exit.LaneFault lane) r.2
-  early_for choice (exit.Full long need room) r = asked schemas x name choice r.0 (exit.Full long need room) r.2
+  early_for : (p : Purpose) (choice : Choice) (e : Exit) → IsRefusedFor o p schemas x name choice e → RefusesEarly e
+  early_for p choice exit.Done r = asked p schemas x name choice r.0 exit.Done r.2
+  early_for p choice (exit.RolledBack c) r = asked p schemas x name choice r.0 (exit.RolledBack c) r.2
+  early_for p choice (exit.Failed blamed) r = asked p schemas x name choice r.0 (exit.Failed blamed) r.2
+  early_for p choice exit.BadWords r = asked p schemas x name choice r.0 exit.BadWords r.2
+  early_for p choice exit.SinkFault r = asked p schemas x name choice r.0 exit.SinkFault r.2
+  early_for p choice (exit.TemplateRefused f) r = tt
+  early_for p choice (exit.StackRefused f) r = tt
+  early_for p choice exit.LibraryFault r = tt
+  early_for p choice exit.NoMemory r = tt
+  early_for p choice exit.DiskFault r = asked p schemas x name choice r.0 exit.DiskFault r.2
+  early_for p choice (exit.NotAJournal offset) r = asked p schemas x name choice r.0 (exit.NotAJournal offset) r.2
+  early_for p choice (exit.LaneMissing lane) r = asked p schemas x name choice r.0 (exit.LaneMissing lane) r.2
+  early_for p choice (exit.LaneTwice lane) r = asked p schemas x name choice r.0 (exit.LaneTwice lane) r.2
+  early_for p choice (exit.LaneAhead lane f epoch) r = asked p schemas x name choice r.0 (exit.LaneAhead lane f epoch) r.2
+  early_for p choice (exit.LaneFault lane) r = asked p schemas x name choice r.0 (exit.LaneFault lane) r.2
+  early_for p choice (exit.Full long need room) r = asked p schemas x name choice r.0 (exit.Full long need room) r.2
 
-  early_by : (choice : Choice) (e : Exit) (bars : Option Exit) → status_refusal name x ≡ bars → RefusesDeployment o schemas x name choice bars e → RefusesEarly e
-  early_by choice e None is r = early_for choice e r
-  early_by choice e (Some bar) is r =
+  pub early_by : (p : Purpose) (choice : Choice) (e : Exit) (bars : Option Exit) → status_refusal name x ≡ bars → RefusesChoice o p schemas x name choice bars e → RefusesEarly e
+  early_by p choice e None is r = early_for p choice e r
+  early_by p choice e (Some bar) is r =
       subst RefusesEarly (sym r.0) (asked_early bar (asked_option (if_barred deploys_from (known_stack name x)) bar is))
 
   early_wish : (w : Wish) (e : Exit) → RefusesWish schemas x w e → RefusesEarly e
@@ -107,10 +109,11 @@ module _ (o : LibraryUse) (schemas : List Schema) (x : World) (name : List ℕ) 
 -- a task is refused by nothing else
 module _ (o : LibraryUse) (schemas : List Schema) (x : World) (name : List ℕ) where
   pub early : (t : Task) (e : Exit) → RefusesTask o schemas x name t e → RefusesEarly e
-  early (task.Deploy choice) e r = early_by o schemas x name choice e (status_refusal name x) refl r
+  early (task.Deploy choice) e r = early_by o schemas x name purpose.Deploy choice e (status_refusal name x) refl r
   early (task.Continue paths) e r = early_wish o schemas x name (wish.Continue name paths) e r.0
   early task.Resume e r = early_wish o schemas x name (wish.Resume name) e r.0
-  early (task.Load count) e r = early_by (load_library count) schemas x name (load_choice count) e (status_refusal name x) refl r.0
+  early (task.Execute number) e r = early_wish o schemas x name (wish.Execute name number) e r.0
+  early (task.Load count) e r = early_by (load_library count) schemas x name purpose.Deploy (load_choice count) e (status_refusal name x) refl r.0
 
   pub never_refused : (t : Task) (lane : List ℕ) (fence epoch : ℕ) → RefusesTask o schemas x name t (exit.LaneAhead lane fence epoch) → ⊥
   never_refused t lane fence epoch r = early t (exit.LaneAhead lane fence epoch) r

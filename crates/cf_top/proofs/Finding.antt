@@ -18,8 +18,11 @@ use Rattle.cf_face.specs.Words.{load_choice}
 use Rattle.cf_face.specs.declared.words.Task.{Task}
 use Rattle.cf_face.specs.declared.words.Task.TheVariants as task
 use Rattle.cf_workers.specs.Ordering.{IsJustOpened}
-use Rattle.cf_top.specs.Refusals.{IsUnasked, LibraryUse}
-use Rattle.cf_top.specs.Tasks.{FindsOrder, IsOpenedFor, IsOrdered, OrdersTask, RefusesDeployment, RefusesTask, early_refusal, load_library}
+use Rattle.cf_top.specs.Refusals.{IsUnasked, LibraryUse, RefusesChoice}
+use Rattle.cf_top.specs.Tasks.{FindsOrder, IsOpenedFor, IsOrdered, OrdersTask, RefusesTask, early_refusal, load_library}
+use Rattle.cf_top.specs.declared.planning.Purpose.TheVariants as purpose
+use Rattle.cf_top.proofs.Ordered.{short_wish}
+use Rattle.cf_prepare.specs.declared.wish.Wish.TheVariants as wish
 use Rattle.cf_core.proofs.Heard.{opened_since}
 
 -- over the schemas of the book's lanes and the world that its entries leave
@@ -47,6 +50,7 @@ module _ {D : Type 0} (o : LibraryUse) (b : BookNow D) (schemas : List Schema) (
   opened_for : (u : Task) → OrdersTask o schemas x name u ordered → IsOpenedFor x name u
   opened_for (task.Deploy choice) d = tt
   opened_for task.Resume d = tt
+  opened_for (task.Execute number) d = tt
   opened_for (task.Load count) d = tt
   opened_for (task.Continue paths) d = by (there x name paths d.0 (stack_at name x) refl) opened where
     by : (s : StackState) × (stack_at name x ≡ Some s) → IsJustOpened b.entries → IsTrue (is_opened_since (known_stack name x))
@@ -61,16 +65,18 @@ module _ {D : Type 0} (o : LibraryUse) (b : BookNow D) (schemas : List Schema) (
 
 -- want of memory refuses each task
 pub short_of : (o : LibraryUse) (schemas : List Schema) (x : World) (name : List ℕ) (t : Task) → early_refusal name x t ≡ None → IsUnasked o → RefusesTask o schemas x name t exit.NoMemory
-short_of o schemas x name (task.Deploy choice) free unasked = subst (λ b. RefusesDeployment o schemas x name choice b exit.NoMemory) (sym free) tt
+short_of o schemas x name (task.Deploy choice) free unasked = subst (λ b. RefusesChoice o purpose.Deploy schemas x name choice b exit.NoMemory) (sym free) tt
 short_of o schemas x name (task.Continue paths) free unasked = ((fault.NoMemory, tt, refl), unasked)
 short_of o schemas x name task.Resume free unasked = ((fault.NoMemory, tt, refl), unasked)
+short_of o schemas x name (task.Execute number) free unasked = ((fault.NoMemory, short_wish schemas x (wish.Execute name number), refl), unasked)
 short_of o schemas x name (task.Load count) free unasked =
-    (subst (λ b. RefusesDeployment (load_library count) schemas x name (load_choice count) b exit.NoMemory) (sym free) tt, unasked)
+    (subst (λ b. RefusesChoice (load_library count) purpose.Deploy schemas x name (load_choice count) b exit.NoMemory) (sym free) tt, unasked)
 
 -- a deployment or a load that is refused for its stack's status
 pub barred : (o : LibraryUse) (schemas : List Schema) (x : World) (name : List ℕ) (t : Task) (e : Exit) → early_refusal name x t ≡ Some e → IsUnasked o → RefusesTask o schemas x name t e
-barred o schemas x name (task.Deploy choice) e q unasked = subst (λ b. RefusesDeployment o schemas x name choice b e) (sym q) (refl, unasked)
+barred o schemas x name (task.Deploy choice) e q unasked = subst (λ b. RefusesChoice o purpose.Deploy schemas x name choice b e) (sym q) (refl, unasked)
 barred o schemas x name (task.Continue paths) e q unasked = let no : ⊥ = cc in absurd no
 barred o schemas x name task.Resume e q unasked = let no : ⊥ = cc in absurd no
+barred o schemas x name (task.Execute number) e q unasked = let no : ⊥ = cc in absurd no
 barred o schemas x name (task.Load count) e q unasked =
-    (subst (λ b. RefusesDeployment (load_library count) schemas x name (load_choice count) b e) (sym q) (refl, (refl, refl)), unasked)
+    (subst (λ b. RefusesChoice (load_library count) purpose.Deploy schemas x name (load_choice count) b e) (sym q) (refl, (refl, refl)), unasked)

@@ -1,34 +1,27 @@
--- What goes on with an operation: a wish that rests on no library.
-use Rattle.std.proofs.Common.{◌≡◌, ℕ, ◌<◌, Bool, true, List, Option, Some, None, Result, Ok, Err, refl, sym, ap, ◌∙◌, subst}
+-- What goes on with an operation, and what a change set orders: wishes that rest on no library.
+use Rattle.std.proofs.Common.{◌≡◌, ℕ, ◌<◌, Bool, true, List, Option, Some, None, Result, Ok, Err, refl, sym, ap, ◌∙◌, subst, arith}
 use Rattle.std.specs.Bool.{IsTrue}
 use Rattle.std.specs.Prelude.{IfOk, is_some, unwrap_or}
-use Rattle.cf_tree.specs.declared.template.Template.{Template}
 use Rattle.cf_schema.specs.declared.described.Schema.{Schema}
 use Rattle.cf_effect.specs.Status.{Stage, is_in_progress, stage_of}
 use Rattle.cf_effect.specs.World.{StackState, World, known_stack, no_stack, stack_at, stack_of_operation}
 use Rattle.cf_stacks.specs.Apart.{AreApart}
-use Rattle.cf_prepare.specs.Prepare.{HasTemplates, OrderFollows, PreparesAs}
+use Rattle.cf_effect.specs.declared.held.KeptSet.{KeptSet}
+use Rattle.cf_prepare.specs.Prepare.{ExecutesAs, ExecutesFound, OrderFollows, PreparesAs}
+use Rattle.cf_prepare.specs.Refusals.{set_of, set_refusal}
 use Rattle.cf_prepare.specs.declared.wish.Order.{Order}
 use Rattle.cf_prepare.specs.declared.wish.Order.TheVariants as order
+use Rattle.cf_prepare.specs.declared.wish.PrepareFault.{PrepareFault}
 use Rattle.cf_prepare.specs.declared.wish.PrepareFault.TheVariants as fault
-use Rattle.cf_prepare.specs.declared.wish.Wish.{Wish}
 use Rattle.cf_prepare.specs.declared.wish.Wish.TheVariants as wish
 use Rattle.cf_book.specs.Beginning.{IsPrepared}
 use Rattle.cf_face.specs.declared.exit.Exit.{Exit}
 use Rattle.cf_face.specs.declared.words.Task.TheVariants as task
 use Rattle.cf_core.proofs.Operations.{going_here}
-use Rattle.cf_top.proofs.Ordered.{continues_prepared}
+use Rattle.cf_top.proofs.Ordered.{continues_prepared, executes_prepared}
 use Rattle.cf_top.specs.Refusals.{IsUnasked, LibraryUse}
-use Rattle.cf_top.specs.Tasks.{FindsOrder, GoesOnBy, IsBare, IsNumbered, PreparesWish}
+use Rattle.cf_top.specs.Tasks.{ExecutesBy, FindsOrder, GoesOnBy, IsNumbered, PreparesWish}
 use Rattle.cf_workers.specs.Ordering.{IsOrderOn}
-
-pub bare_templates : (x : World) (w : Wish) (ts : List (List ℕ × Template)) → IsBare w → HasTemplates x w ts
-bare_templates x (wish.Continue name paths) ts b = tt
-bare_templates x (wish.Resume name) ts b = tt
-bare_templates x (wish.Deploy name source) ts b = absurd b
-bare_templates x (wish.Review name source) ts b = absurd b
-bare_templates x (wish.Execute name number) ts b = absurd b
-bare_templates x (wish.Delete name paths) ts b = absurd b
 
 module _ (schemas : List Schema) (x : World) (name : List ℕ) (ordered : Order) where
   -- where memory is short, or the operation has no number of its own, it does not go on
@@ -78,3 +71,31 @@ module _ (o : LibraryUse) (schemas : List Schema) (x : World) (name : List ℕ) 
       → FindsOrder o schemas x name task.Resume result
   resumed (Ok ordered) (p, f) numbered = ((p, unasked), λ apart opened. resumes ordered p f (numbered ordered refl) apart)
   resumed (Err e) r numbered = (r, unasked)
+
+-- A change set that is executed is there, and has the rows of now.
+module _ (schemas : List Schema) (x : World) (name : List ℕ) (number : ℕ) (ordered : Order) where
+  executes_found : set_refusal x name number ≡ None → (k : Option KeptSet) → set_of number (known_stack name x) ≡ k → ExecutesFound schemas x name number k (Ok ordered)
+      → ExecutesBy schemas x name number ordered
+  executes_found free (Some k) at (sound, same, deploys) = record {
+    free = free;
+    set = k;
+    kept = at;
+    sound = sound;
+    same_rows = same;
+    deploys = deploys;
+  }
+  executes_found free None at p = let never : ⊥ = grind (arith, free, at) in absurd never
+
+  executes_by : (o : Option PrepareFault) → set_refusal x name number ≡ o → ExecutesAs o schemas x name number (Ok ordered) → ExecutesBy schemas x name number ordered
+  executes_by None free p = executes_found free (set_of number (known_stack name x)) refl p
+  executes_by (Some f) q p = let is : Some f ≡ None = p.0 in let never : ⊥ = cc in absurd never
+
+  pub executes : PreparesAs schemas x (wish.Execute name number) (Ok ordered) → ExecutesBy schemas x name number ordered
+  executes p = executes_by (set_refusal x name number) refl p
+
+pub executed : (o : LibraryUse) (schemas : List Schema) (x : World) (name : List ℕ) → IsUnasked o → (number : ℕ) (result : Result Order Exit)
+    → PreparesWish schemas x (wish.Execute name number) result → FindsOrder o schemas x name (task.Execute number) result
+executed o schemas x name unasked number (Ok ordered) (p, f) =
+    let d = executes schemas x name number ordered p in
+    ((d, unasked), λ apart opened. executes_prepared schemas x name number d.set.source ordered d.deploys f)
+executed o schemas x name unasked number (Err e) r = (r, unasked)

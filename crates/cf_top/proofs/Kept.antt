@@ -37,6 +37,7 @@ use Rattle.cf_top.specs.History.{IsCommand}
 use Rattle.cf_top.specs.Opening.{enter_exit}
 use Rattle.cf_top.specs.Outside.{CameTo, HasEntered, IsClosed, Outside, Printed, Printing, WasDone}
 use Rattle.cf_top.specs.Telling.{outcome_exit}
+use Rattle.cf_top.proofs.Sets.{keeps_set}
 use Rattle.cf_workers.proofs.Commanded.{named_as}
 use Rattle.cf_workers.proofs.Crashes.{extends_itself, extends_on}
 use Rattle.cf_workers.proofs.Entered.{entered_agrees, same_handlers}
@@ -255,7 +256,8 @@ module _ {D H : Type 0} (g : DiskGhosts D) (h : HandlerGhosts H) where
 
   -- a command of a history
   ran_agrees : (m : Outside D H) (p : Printing) (words : List (List ℕ)) (result : Exit) → RanAs g h m p words result → Stays g → KeepsAgreed m
-  ran_agrees m p words result (inl (asks, (quiet, keeps), tells)) = (kept_before m result quiet keeps).agrees
+  ran_agrees m p words result (inl (asks, (quiet, keeps, leaves), answers)) = λ stay.
+      subst (λ (hs : List H). KeepsAgreement g h m.disk m.handlers m.disk' hs) (sym quiet) (keeps_set g h m.disk m.disk' m.handlers stay result leaves)
   ran_agrees m p words result (inr (inl (drives, answered))) = (kept_says m p words result answered.says).1
   ran_agrees m p words result (inr (inr (touched, printed))) = (kept_nothing m result touched.0 touched.1).agrees
 

@@ -8,8 +8,14 @@ pub mod Deployed
 pub mod Loading
 pub mod Carried
 pub mod Histories
+pub mod Sets
+pub mod Reviewed
 pub mod Kept
 pub mod Along
+pub mod Moments
+pub mod OfRun
+pub mod Foretold
+pub mod SetTold
 pub mod Intended
 pub mod Over
 pub mod Course

@@ -29,14 +29,15 @@ use Rattle.cf_plan.proofs.Listed.{same_bytes}
 use Rattle.cf_plan.specs.Follow.{lane_kinds}
 use Rattle.cf_core.specs.Turned.{reason_in, was_continued}
 use Rattle.cf_prepare.specs.Answer.{TestsAs}
-use Rattle.cf_prepare.specs.Orders.{IsContinuation}
-use Rattle.cf_prepare.specs.Prepare.{PreparesAs}
-use Rattle.cf_prepare.specs.Refusals.{continue_refusal, resume_refusal}
+use Rattle.cf_prepare.specs.Orders.{IsContinuation, IsDeployment}
+use Rattle.cf_prepare.specs.Prepare.{ExecutesAs, ExecutesFound, ExecutesSet, PreparesAs}
+use Rattle.cf_prepare.specs.Refusals.{continue_refusal, execute_refusal, proposed_changes, resume_refusal, set_of, set_refusal}
 use Rattle.cf_prepare.specs.Resuming.{IsFirstStuck}
 use Rattle.cf_prepare.specs.declared.wish.Order.{Order}
 use Rattle.cf_prepare.specs.declared.wish.Order.TheVariants as order
 use Rattle.cf_prepare.specs.declared.wish.PrepareFault.{PrepareFault}
 use Rattle.cf_prepare.specs.declared.wish.PrepareFault.TheVariants as prepare
+use Rattle.cf_prepare.specs.declared.wish.StackFault.TheVariants as fault_of
 use Rattle.cf_prepare.specs.declared.wish.Wish.TheVariants as wish
 use Rattle.cf_book.specs.Beginning.{BeginsOrder}
 use Rattle.cf_book.specs.Entering.{RefusesAs, epoch_over}
@@ -55,21 +56,24 @@ use Rattle.cf_face.specs.declared.words.Task.TheVariants as task
 use Rattle.cf_face.specs.declared.exit.Exit.{Exit}
 use Rattle.cf_face.specs.declared.exit.Exit.TheVariants as exit
 use Rattle.cf_face.specs.declared.exit.Refusal.TheVariants as refusal
+use Rattle.cf_face.specs.declared.exit.StackFault.TheVariants as outdated
 use Rattle.cf_workers.specs.Driving.{LacksOutcome, Stops}
 use Rattle.cf_workers.specs.Turning.{IsCountedOn, cause_of}
 use Rattle.cf_workers.proofs.Agreeing.{rest_differs}
 use Rattle.cf_workers.proofs.Commanded.{named_as, same_names_now}
 use Rattle.cf_workers.proofs.Along.{same_entered}
 use Rattle.cf_workers.proofs.Wrote.{schemas_same}
-use Rattle.cf_top.specs.Alone.{AloneTells, Comes, ComesBefore, EndsEarly, IsAnswered, IsCutShort, IsDeploymentRefused, IsExitOf, IsRefusal, IsRefusedAs, IsRefusedOver, NoCountRose, RoseAt, Says, counts_of, opened_world}
+use Rattle.cf_top.specs.Alone.{AloneTells, Comes, ComesBefore, EndsEarly, IsAnswered, IsCutShort, IsDeploymentRefused, IsExecutionRefused, IsExitOf, IsRefusal, IsRefusedAs, IsRefusedOver, IsSetRefused, NoCountRose, RoseAt, Says, counts_of, opened_world}
 use Rattle.cf_top.specs.Crash.{Lasts, LastsWhereOver}
 use Rattle.cf_top.specs.Ends.{BlamesNoCall, CallFailed, CountsWithin, EndsWithoutFailure, FailedAt, FailedBy, HadCause, HasEnded, IsNoFailure, IsUntold, TurnedBefore, TurnedNow}
 use Rattle.cf_top.specs.Opening.{enter_exit}
 use Rattle.cf_top.specs.Outside.{CameTo, HasEntered, IsClosed, Outside, Printed, Printing}
 use Rattle.cf_top.specs.Performed.{DoesTask, ExitsFor}
 use Rattle.cf_workers.specs.Ordering.{schemas_in, number_of}
-use Rattle.cf_top.specs.Refusals.{IsRefusedFor, LibraryUse, deployment_refusal, exit_of_fault}
-use Rattle.cf_top.specs.Tasks.{DeploysBy, OrdersTask, RefusesDeployment, RefusesTask, load_library, status_refusal, task_words}
+use Rattle.cf_top.specs.Refusals.{IsRefusedFor, LibraryUse, RefusesChoice, deployment_refusal, exit_of_fault}
+use Rattle.cf_top.specs.Tasks.{DeploysBy, ExecutesBy, OrdersTask, RefusesTask, load_library, status_refusal, task_words}
+use Rattle.cf_top.specs.declared.planning.Purpose.TheVariants as purpose
+use Rattle.cf_effect.specs.declared.held.KeptSet.{KeptSet}
 use Rattle.cf_top.specs.Telling.{exit_by, exit_for, outcome_exit, outcome_text}
 use Rattle.cf_top.proofs.Course.{has_run}
 use Rattle.cf_top.proofs.Early.{IsAsked, RefusesEarly, asked_fault, asked_option, early}
@@ -326,6 +330,16 @@ module _ (o : LibraryUse) (schemas : List Schema) (x : World) (name : List ℕ) 
   never_deployed choice e (inr (free, texts, told, q)) ordered d =
       some≢none e (sym q ∙ ap (deployment_refusal schemas x name choice) (sym (found_is choice texts (Some d.bytes) told d.stands)) ∙ d.sound)
 
+  never_executed : (number : ℕ) (e : Exit) → IsExecutionRefused schemas x name number e → (ordered : Order) → ExecutesBy schemas x name number ordered → ⊥
+  never_executed number e (inl q) ordered d = not_refused (set_refusal x name number) e d.free q
+  never_executed number e (inr (free, set, kept, why)) ordered d = by why where
+    one : set ≡ d.set
+    one = some_inside set d.set (sym kept ∙ d.kept)
+
+    by : IsSetRefused schemas x name number set e → ⊥
+    by (inl q) = not_refused (execute_refusal schemas x name set.source) e (ap (λ (k : KeptSet). execute_refusal schemas x name k.source) one ∙ d.sound) q
+    by (inr (sound, other, is)) = other (subst (λ (k : KeptSet). (proposed_changes schemas x name k.source).rows ≡ k.rows) (sym one) d.same_rows)
+
   -- a test that refuses does so for its reason, or for want of memory
   tests_so : (P : Order → Type 0) (w : Option PrepareFault) (f : PrepareFault) → TestsAs w P (Err f) → (w ≡ Some f) ⊎ (f ≡ prepare.NoMemory)
   tests_so P w prepare.NoMemory q = inr refl
@@ -342,7 +356,7 @@ module _ (o : LibraryUse) (schemas : List Schema) (x : World) (name : List ℕ) 
   wish_same w f e y q is (inr none) = inr (subst ComesBefore (sym (is ∙ ap exit_of_fault none)) tt)
 
   found_refused : (choice : Choice) (texts : Texts) (e y : Exit) → o.texts ≡ Some texts → deployment_refusal schemas x name choice (text_named choice.template texts) ≡ Some e
-      → IsRefusedFor o schemas x name choice y → IsForetold e y
+      → IsRefusedFor o purpose.Deploy schemas x name choice y → IsForetold e y
   found_refused choice texts e exit.Done told q r = inl (some_inside exit.Done e (sym r.2 ∙ ap (deployment_refusal schemas x name choice) (found_is choice texts r.0 told r.1) ∙ q))
   found_refused choice texts e exit.BadWords told q r = inl (some_inside exit.BadWords e (sym r.2 ∙ ap (deployment_refusal schemas x name choice) (found_is choice texts r.0 told r.1) ∙ q))
   found_refused choice texts e exit.SinkFault told q r = inl (some_inside exit.SinkFault e (sym r.2 ∙ ap (deployment_refusal schemas x name choice) (found_is choice texts r.0 told r.1) ∙ q))
@@ -361,7 +375,7 @@ module _ (o : LibraryUse) (schemas : List Schema) (x : World) (name : List ℕ) 
   found_refused choice texts e (exit.Full long need room) told q r = inl (some_inside (exit.Full long need room) e (sym r.2 ∙ ap (deployment_refusal schemas x name choice) (found_is choice texts r.0 told r.1) ∙ q))
 
   deploy_refused : (choice : Choice) (e y : Exit) (bars : Option Exit) → status_refusal name x ≡ bars → IsDeploymentRefused o.texts schemas x name choice e
-      → RefusesDeployment o schemas x name choice bars y → IsForetold e y
+      → RefusesChoice o purpose.Deploy schemas x name choice bars y → IsForetold e y
   deploy_refused choice e y None is (inl q) r = absurd (some≢none e (sym q ∙ is))
   deploy_refused choice e y None is (inr (free, texts, told, q)) r = found_refused choice texts e y told q r
   deploy_refused choice e y (Some bar) is (inl q) r = inl (r.0 ∙ some_inside bar e (sym is ∙ q))
@@ -378,7 +392,47 @@ module _ (o : LibraryUse) (schemas : List Schema) (x : World) (name : List ℕ) 
   resume_same (prepare.Stack f) e y (inl q) p is = wish_same (resume_refusal x name) (prepare.Stack f) e y q is (inl p)
   resume_same (prepare.Stack f) e y (inr (other, sort, same, none, least)) p is = absurd (some≢none (prepare.Stack f) (sym p ∙ none))
 
-  deploy_told : (choice : Choice) (bars : Option Exit) → status_refusal name x ≡ bars → RefusesDeployment o schemas x name choice bars exit.LibraryFault → HasRisen o.faults o.faults'
+  -- an execution is refused for its change set, for the source of that, or since other rows change by now
+  set_foretold : (number : ℕ) (set : KeptSet) (f : PrepareFault) (e y : Exit) → IsSetRefused schemas x name number set e
+      → ExecutesSet (execute_refusal schemas x name set.source) number (proposed_changes schemas x name set.source).rows set.rows (IsDeployment schemas x name set.source) (Err f)
+      → y ≡ exit_of_fault f → IsForetold e y
+  set_foretold number set (prepare.Stack (fault_of.Outdated n)) e y (inl q) (sound, same, other) is = absurd (not_refused (execute_refusal schemas x name set.source) e sound q)
+  set_foretold number set (prepare.Stack (fault_of.Outdated n)) e y (inr (sound, other, told)) (none, same, differ) is =
+      inl (is ∙ ap (λ (k : ℕ). exit.StackRefused (outdated.Outdated k)) same ∙ sym told)
+  set_foretold number set prepare.NoMemory e y r p is = inr (subst ComesBefore (sym is) tt)
+  set_foretold number set (prepare.Plan flaw) e y (inl q) p is = wish_same (execute_refusal schemas x name set.source) (prepare.Plan flaw) e y q is (inl p)
+  set_foretold number set (prepare.UnknownType path kind) e y (inl q) p is = wish_same (execute_refusal schemas x name set.source) (prepare.UnknownType path kind) e y q is (inl p)
+  set_foretold number set (prepare.Plan flaw) e y (inr (sound, other, told)) p is = absurd (some≢none (prepare.Plan flaw) (sym p ∙ sound))
+  set_foretold number set (prepare.UnknownType path kind) e y (inr (sound, other, told)) p is = absurd (some≢none (prepare.UnknownType path kind) (sym p ∙ sound))
+  set_foretold number set (prepare.Stack fault_of.NoStack) e y (inl q) p is = wish_same (execute_refusal schemas x name set.source) (prepare.Stack fault_of.NoStack) e y q is (inl p)
+  set_foretold number set (prepare.Stack fault_of.NoStack) e y (inr (sound, other, told)) p is = absurd (some≢none (prepare.Stack fault_of.NoStack) (sym p ∙ sound))
+  set_foretold number set (prepare.Stack (fault_of.WrongStatus status)) e y (inl q) p is = wish_same (execute_refusal schemas x name set.source) (prepare.Stack (fault_of.WrongStatus status)) e y q is (inl p)
+  set_foretold number set (prepare.Stack (fault_of.WrongStatus status)) e y (inr (sound, other, told)) p is = absurd (some≢none (prepare.Stack (fault_of.WrongStatus status)) (sym p ∙ sound))
+  set_foretold number set (prepare.Stack (fault_of.NoChangeSet n)) e y (inl q) p is = wish_same (execute_refusal schemas x name set.source) (prepare.Stack (fault_of.NoChangeSet n)) e y q is (inl p)
+  set_foretold number set (prepare.Stack (fault_of.NoChangeSet n)) e y (inr (sound, other, told)) p is = absurd (some≢none (prepare.Stack (fault_of.NoChangeSet n)) (sym p ∙ sound))
+  set_foretold number set (prepare.Stack (fault_of.NotFailed path)) e y (inl q) p is = wish_same (execute_refusal schemas x name set.source) (prepare.Stack (fault_of.NotFailed path)) e y q is (inl p)
+  set_foretold number set (prepare.Stack (fault_of.NotFailed path)) e y (inr (sound, other, told)) p is = absurd (some≢none (prepare.Stack (fault_of.NotFailed path)) (sym p ∙ sound))
+  set_foretold number set (prepare.Stack (fault_of.TypeChanged path)) e y (inl q) p is = wish_same (execute_refusal schemas x name set.source) (prepare.Stack (fault_of.TypeChanged path)) e y q is (inl p)
+  set_foretold number set (prepare.Stack (fault_of.TypeChanged path)) e y (inr (sound, other, told)) p is = absurd (some≢none (prepare.Stack (fault_of.TypeChanged path)) (sym p ∙ sound))
+  set_foretold number set (prepare.Stack (fault_of.ExportTaken export)) e y (inl q) p is = wish_same (execute_refusal schemas x name set.source) (prepare.Stack (fault_of.ExportTaken export)) e y q is (inl p)
+  set_foretold number set (prepare.Stack (fault_of.ExportTaken export)) e y (inr (sound, other, told)) p is = absurd (some≢none (prepare.Stack (fault_of.ExportTaken export)) (sym p ∙ sound))
+  set_foretold number set (prepare.Stack (fault_of.ExportInUse export)) e y (inl q) p is = wish_same (execute_refusal schemas x name set.source) (prepare.Stack (fault_of.ExportInUse export)) e y q is (inl p)
+  set_foretold number set (prepare.Stack (fault_of.ExportInUse export)) e y (inr (sound, other, told)) p is = absurd (some≢none (prepare.Stack (fault_of.ExportInUse export)) (sym p ∙ sound))
+  set_foretold number set (prepare.Stack fault_of.NoChanges) e y (inl q) p is = wish_same (execute_refusal schemas x name set.source) (prepare.Stack fault_of.NoChanges) e y q is (inl p)
+  set_foretold number set (prepare.Stack fault_of.NoChanges) e y (inr (sound, other, told)) p is = absurd (some≢none (prepare.Stack fault_of.NoChanges) (sym p ∙ sound))
+
+  execution_foretold : (number : ℕ) (f : PrepareFault) (e y : Exit) → IsExecutionRefused schemas x name number e → PreparesAs schemas x (wish.Execute name number) (Err f)
+      → y ≡ exit_of_fault f → IsForetold e y
+  execution_foretold number f e y r p is = by (set_refusal x name number) refl r p where
+    by : (w : Option PrepareFault) → set_refusal x name number ≡ w → IsExecutionRefused schemas x name number e → ExecutesAs w schemas x name number (Err f) → IsForetold e y
+    by (Some g) at (inl q) t =
+        wish_same (Some g) f e y (ap (option_map exit_of_fault) (sym at) ∙ q) is (tests_so (λ o. Unit {0}) (Some g) f t)
+    by (Some g) at (inr (free, set, kept, why)) t = absurd (some≢none g (sym at ∙ free))
+    by None at (inl q) t = absurd (not_refused (set_refusal x name number) e at q)
+    by None at (inr (free, set, kept, why)) t =
+        set_foretold number set f e y why (subst (λ (k : Option KeptSet). ExecutesFound schemas x name number k (Err f)) kept t) is
+
+  deploy_told : (choice : Choice) (bars : Option Exit) → status_refusal name x ≡ bars → RefusesChoice o purpose.Deploy schemas x name choice bars exit.LibraryFault → HasRisen o.faults o.faults'
   deploy_told choice None is q = q
   deploy_told choice (Some bar) is q = absurd (subst IsAsked (sym q.0) (asked_option _ bar is))
 
@@ -395,6 +449,7 @@ module _ (o : LibraryUse) (schemas : List Schema) (x : World) (name : List ℕ) 
     by : ResumesNot o schemas x name e → ⊥
     by (inl q) = not_refused o schemas x name (resume_refusal x name) e ((d.0).0) q
     by (inr (path, kind, is, free, (w, stuck, at, sort, least))) = (d.0).1 w stuck
+  never_ordered (task.Execute number) e r ordered d = never_executed o schemas x name number e r ordered d.0
   never_ordered (task.Load count) e r ordered d = never_deployed (load_library count) schemas x name (load_choice count) e r ordered d.0
 
   foretold : (t : Task) (e y : Exit) → IsRefusedAs o.texts schemas x name t e → RefusesTask o schemas x name t y → IsForetold o schemas x name e y
@@ -402,6 +457,7 @@ module _ (o : LibraryUse) (schemas : List Schema) (x : World) (name : List ℕ) 
   foretold (task.Continue paths) e y r ((f, prepares, is), unasked) =
       wish_same o schemas x name (continue_refusal x name paths) f e y r is (tests_so o schemas x name (IsContinuation x name paths) (continue_refusal x name paths) f prepares)
   foretold task.Resume e y r ((f, prepares, is), unasked) = resume_same o schemas x name f e y (resumes_not o schemas x name e r) prepares is
+  foretold (task.Execute number) e y r ((f, prepares, is), unasked) = execution_foretold o schemas x name number f e y r prepares is
   foretold (task.Load count) e y r q = deploy_refused (load_library count) schemas x name (load_choice count) e y (status_refusal name x) refl r q.0
 
   -- a library is at fault only in a deployment, where its count rose
@@ -409,6 +465,7 @@ module _ (o : LibraryUse) (schemas : List Schema) (x : World) (name : List ℕ) 
   library_told (task.Deploy choice) r = deploy_told o schemas x name choice (status_refusal name x) refl r
   library_told (task.Continue paths) ((f, prepares, is), unasked) = absurd (subst IsAsked (sym is) (asked_fault f))
   library_told task.Resume ((f, prepares, is), unasked) = absurd (subst IsAsked (sym is) (asked_fault f))
+  library_told (task.Execute number) ((f, prepares, is), unasked) = absurd (subst IsAsked (sym is) (asked_fault f))
   library_told (task.Load count) r = absurd (never_rose (deploy_told (load_library count) schemas x name (load_choice count) (status_refusal name x) refl r.0))
 
 before_refused : (f : EnterFault) → ComesBefore (enter_exit f)

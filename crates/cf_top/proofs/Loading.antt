@@ -4,7 +4,8 @@ use Rattle.std.proofs.lemmas.Bool.{leb-true}
 use Rattle.std.specs.Prelude.{codes, nat_le, option_and_then}
 use Rattle.std.specs.Int.{is_in_range}
 use Rattle.std.specs.Str.{bytes_eq}
-use Rattle.cf_face.specs.Words.{command_of, continue_of, deploy_of, describe_of, events_of, given_of, is_stack_name, is_template_name, list_of, load_count_of, load_of, paths_of, resume_of, task_of, validate_of}
+use Rattle.cf_face.specs.Words.{chosen_in, command_of, continue_of, create_set_of, deploy_of, describe_of, describe_set_of, events_of, execute_set_of, is_stack_name, is_template_name, list_of, load_count_of, load_of, paths_of, resume_of, set_command_of, set_in_words, task_of, validate_of}
+use Rattle.cf_face.specs.declared.words.Choice.{Choice}
 use Rattle.cf_face.specs.declared.words.Command.{Command}
 use Rattle.cf_face.specs.declared.words.Command.TheVariants as command
 use Rattle.cf_face.specs.declared.words.Task.{Task}
@@ -62,13 +63,10 @@ either true x y f g = f
 either false x y f g = g
 
 deploys : (words : List (List ℕ)) → IsFewIn (deploy_of words)
-deploys [] = tt
-deploys (stack ∷ []) = tt
-deploys (stack ∷ template ∷ settings) = by (is_stack_name stack && is_template_name template) (given_of settings) where
-  by : (b : Bool) (given : Option (List (List ℕ × List ℕ))) → IsFewIn (cond b (option_map (command.Deploy stack template) given) None)
-  by true (Some given) = tt
-  by true None = tt
-  by false given = tt
+deploys words = by (chosen_in words) where
+  by : (chosen : Option (List ℕ × Choice)) → IsFewIn (option_map (λ (c : List ℕ × Choice). command.Deploy c.0 c.1.template c.1.given) chosen)
+  by (Some c) = tt
+  by None = tt
 
 continues : (words : List (List ℕ)) → IsFewIn (continue_of words)
 continues [] = tt
@@ -110,6 +108,30 @@ validates [] = tt
 validates (template ∷ []) = either (is_template_name template) (Some (command.Validate template)) None tt tt
 validates (template ∷ word ∷ words) = tt
 
+creates_sets : (words : List (List ℕ)) → IsFewIn (create_set_of words)
+creates_sets words = by (chosen_in words) where
+  by : (chosen : Option (List ℕ × Choice)) → IsFewIn (option_map (λ (c : List ℕ × Choice). command.CreateSet c.0 c.1.template c.1.given) chosen)
+  by (Some c) = tt
+  by None = tt
+
+describes_sets : (words : List (List ℕ)) → IsFewIn (describe_set_of words)
+describes_sets words = by (set_in_words words) where
+  by : (set : Option (List ℕ × ℕ)) → IsFewIn (option_map (λ (s : List ℕ × ℕ). command.DescribeSet s.0 s.1) set)
+  by (Some s) = tt
+  by None = tt
+
+executes_sets : (words : List (List ℕ)) → IsFewIn (execute_set_of words)
+executes_sets words = by (set_in_words words) where
+  by : (set : Option (List ℕ × ℕ)) → IsFewIn (option_map (λ (s : List ℕ × ℕ). command.ExecuteSet s.0 s.1) set)
+  by (Some s) = tt
+  by None = tt
+
+on_sets : (word : List ℕ) (words : List (List ℕ)) → IsFewIn (set_command_of word words)
+on_sets word words =
+    either (bytes_eq (codes "create-change-set") word) (create_set_of words) _ (creates_sets words)
+    (either (bytes_eq (codes "describe-change-set") word) (describe_set_of words) _ (describes_sets words)
+    (either (bytes_eq (codes "execute-change-set") word) (execute_set_of words) None (executes_sets words) tt))
+
 few_in : (words : List (List ℕ)) → IsFewIn (command_of words)
 few_in [] = tt
 few_in (word ∷ words) =
@@ -120,7 +142,7 @@ few_in (word ∷ words) =
     (either (bytes_eq (codes "describe") word) (describe_of words) _ (describes words)
     (either (bytes_eq (codes "events") word) (events_of words) _ (tells_events words)
     (either (bytes_eq (codes "list") word) (list_of words) _ (lists words)
-    (either (bytes_eq (codes "validate") word) (validate_of words) None (validates words) tt)))))))
+    (either (bytes_eq (codes "validate") word) (validate_of words) _ (validates words) (on_sets word words))))))))
 
 -- the task of a pair that is there
 task_in : (a b : List ℕ × Task) → Some a ≡ Some b → a.1 ≡ b.1
@@ -135,6 +157,9 @@ loadable words stack t said = by (command_of words) (few_in words) said where
   by (Some (command.ContinueRollback name paths)) few e = subst IsLoadable (task_in _ (stack, t) e) tt
   by (Some (command.Resume name)) few e = subst IsLoadable (task_in _ (stack, t) e) tt
   by (Some (command.Load count)) few e = subst IsLoadable (task_in _ (stack, t) e) few
+  by (Some (command.ExecuteSet name number)) few e = subst IsLoadable (task_in _ (stack, t) e) tt
+  by (Some (command.CreateSet name template given)) few e = let no : ⊥ = cc in absurd no
+  by (Some (command.DescribeSet name number)) few e = let no : ⊥ = cc in absurd no
   by (Some (command.Describe name)) few e = let no : ⊥ = cc in absurd no
   by (Some (command.Events name)) few e = let no : ⊥ = cc in absurd no
   by (Some command.List) few e = let no : ⊥ = cc in absurd no

@@ -1,5 +1,5 @@
 -- What the words of a command come to for `alone` (the answers are this project's own).
-use Rattle.std.specs.Prelude.{◌≡◌, ◌⊎◌, ℕ, List, [], ◌∷◌, ◌++◌, map, slice_index_or, take, Option, Some, None, Result, Err, option_map, ⊤}
+use Rattle.std.specs.Prelude.{◌≡◌, ◌≢◌, ◌⊎◌, ℕ, List, [], ◌∷◌, ◌++◌, map, slice_index_or, take, Option, Some, None, Result, Err, option_map, ⊤}
 use Rattle.std.specs.Io.KnownBytes.{Appends}
 use Rattle.cf_tree.specs.Counts.{HasRisen}
 use Rattle.cf_disk.specs.declared.disk.Disk.{Ghosts as DiskGhosts}
@@ -8,8 +8,9 @@ use Rattle.cf_entry.specs.declared.entry.Entry.{Entry}
 use Rattle.cf_io.specs.Library.{Texts, text_named}
 use Rattle.cf_schema.specs.declared.described.Schema.{Schema}
 use Rattle.cf_effect.specs.World.{StackState, World, known_stack}
+use Rattle.cf_effect.specs.declared.held.KeptSet.{KeptSet}
 use Rattle.cf_plan.specs.Follow.{lane_kinds}
-use Rattle.cf_prepare.specs.Refusals.{continue_refusal, resume_refusal}
+use Rattle.cf_prepare.specs.Refusals.{continue_refusal, execute_refusal, proposed_changes, resume_refusal, set_of, set_refusal}
 use Rattle.cf_prepare.specs.Resuming.{IsFirstStuck}
 use Rattle.cf_book.specs.Entering.{opened_over}
 use Rattle.cf_book.specs.Fences.{handed_in}
@@ -20,6 +21,7 @@ use Rattle.cf_face.specs.Words.{load_choice}
 use Rattle.cf_face.specs.declared.exit.Exit.{Exit}
 use Rattle.cf_face.specs.declared.exit.Exit.TheVariants as exit
 use Rattle.cf_face.specs.declared.exit.Refusal.TheVariants as refusal
+use Rattle.cf_face.specs.declared.exit.StackFault.TheVariants.{Outdated}
 use Rattle.cf_face.specs.declared.words.Choice.{Choice}
 use Rattle.cf_face.specs.declared.words.Task.{Task}
 use Rattle.cf_face.specs.declared.words.Task.TheVariants as task
@@ -123,8 +125,23 @@ ComesBefore _ = ⊥
 abbrev pub opened_world : {H : Type 0} → HandlerGhosts H → List H → List Entry → World
 opened_world h handlers es = world_left (es ++ opened_over (handed_in h handlers) es ∷ [])
 
+-- Why a change set is not executed: there is none, or none may be from the stack's status; for its source; or since that changes other
+-- rows by now.
+abbrev pub IsSetRefused : List Schema → World → List ℕ → ℕ → KeptSet → Exit → Type 0
+IsSetRefused schemas x name number set e =
+    (option_map exit_of_fault (execute_refusal schemas x name set.source) ≡ Some e)
+    ⊎ ((execute_refusal schemas x name set.source ≡ None) × ((proposed_changes schemas x name set.source).rows ≢ set.rows)
+    × (e ≡ exit.StackRefused (Outdated number)))
+
+abbrev pub IsExecutionRefused : List Schema → World → List ℕ → ℕ → Exit → Type 0
+IsExecutionRefused schemas x name number e =
+    (option_map exit_of_fault (set_refusal x name number) ≡ Some e)
+    ⊎ ((set_refusal x name number ≡ None) × (set : KeptSet) × (set_of number (known_stack name x) ≡ Some set)
+    × IsSetRefused schemas x name number set e)
+
 -- Why a task is refused: a deployment for its stack's status, or else for what is found under the template's name in a library that tells
--- its texts, and a load for what its template is; an operation in progress also at its first path of a type that no lane has.
+-- its texts, and a load for what its template is; an operation in progress also at its first path of a type that no lane has; an execution
+-- as above.
 abbrev pub IsDeploymentRefused : Option Texts → List Schema → World → List ℕ → Choice → Exit → Type 0
 IsDeploymentRefused o schemas x name choice e =
     (status_refusal name x ≡ Some e)
@@ -134,6 +151,7 @@ IsDeploymentRefused o schemas x name choice e =
 abbrev pub IsRefusedAs : Option Texts → List Schema → World → List ℕ → Task → Exit → Type 0
 IsRefusedAs o schemas x name (task.Deploy choice) e = IsDeploymentRefused o schemas x name choice e
 IsRefusedAs o schemas x name (task.Load count) e = IsDeploymentRefused (Some (load_texts count)) schemas x name (load_choice count) e
+IsRefusedAs o schemas x name (task.Execute number) e = IsExecutionRefused schemas x name number e
 IsRefusedAs o schemas x name (task.Continue paths) e = option_map exit_of_fault (continue_refusal x name paths) ≡ Some e
 IsRefusedAs o schemas x name task.Resume (exit.TemplateRefused (refusal.UnknownType path kind)) =
     (resume_refusal x name ≡ None) × IsFirstStuck (lane_kinds x) (known_stack name x) path kind

@@ -6,8 +6,10 @@ pub mod NotYet
 pub mod Refusals
 pub mod Telling
 pub mod Tasks
+pub mod Foretold
 pub mod Performed
 pub mod Outside
+pub mod Reviewing
 pub mod Ends
 pub mod Alone
 pub mod Answer

@@ -1,4 +1,5 @@
--- What is found in the library under a template's name, and why a deployment of it is refused before anything is made (this project's own).
+-- What is found in the library under a template's name, and why a deployment or a review of it is refused before anything is made (this
+-- project's own).
 use Rattle.std.specs.Prelude.{◌≡◌, ℕ, List, [], ◌∷◌, Option, Some, None, Result, Ok, Err, if◌then◌else◌, option_map, ⊤}
 use Rattle.cf_io.specs.Library.{Texts, StandsUnder}
 use Rattle.cf_io.specs.declared.library.Library.{Ghosts as LibraryGhosts}
@@ -12,11 +13,13 @@ use Rattle.cf_template.specs.declared.refusal.TemplateFault.TheVariants as unrea
 use Rattle.cf_desired.specs.declared.flaw.Flaw.TheVariants.{TemplateMissing}
 use Rattle.cf_schema.specs.declared.described.Schema.{Schema}
 use Rattle.cf_effect.specs.World.{World}
-use Rattle.cf_prepare.specs.Refusals.{deploy_refusal}
+use Rattle.cf_prepare.specs.Refusals.{deploy_refusal, review_refusal}
 use Rattle.cf_prepare.specs.declared.wish.StackFault.{StackFault}
 use Rattle.cf_prepare.specs.declared.wish.StackFault.TheVariants as stack
 use Rattle.cf_prepare.specs.declared.wish.PrepareFault.{PrepareFault}
 use Rattle.cf_prepare.specs.declared.wish.PrepareFault.TheVariants as fault
+use Rattle.cf_prepare.specs.declared.wish.Wish.{Wish}
+use Rattle.cf_prepare.specs.declared.wish.Wish.TheVariants as wish
 use Rattle.cf_face.specs.declared.words.Choice.{Choice}
 use Rattle.cf_face.specs.declared.exit.Exit.{Exit}
 use Rattle.cf_face.specs.declared.exit.Exit.TheVariants as exit
@@ -25,6 +28,8 @@ use Rattle.cf_face.specs.declared.exit.StackFault.TheVariants as told
 use Rattle.cf_face.specs.declared.exit.Refusal.{Refusal}
 use Rattle.cf_face.specs.declared.exit.Refusal.TheVariants as refusal
 use Rattle.cf_top.specs.NotYet.{is_not_yet}
+use Rattle.cf_top.specs.declared.planning.Purpose.{Purpose}
+use Rattle.cf_top.specs.declared.planning.Purpose.TheVariants as purpose
 
 -- a library before and after: its texts, its faults and its misses
 pub record LibraryUse : Type 0 where
@@ -48,7 +53,7 @@ use_of l before after = record {
 abbrev pub IsUnasked : LibraryUse → Type 0
 IsUnasked o = (o.faults' ≡ o.faults) × (o.misses' ≡ o.misses)
 
--- what a deployment rests on: one template and what is given for its parameters, without imports
+-- what a deployment and a review rest on: one template and what is given for its parameters, without imports
 abbrev pub deployed_source : List ℕ → Choice → List ℕ → Source
 deployed_source stack choice bytes = record {
   root = choice.template;
@@ -78,17 +83,29 @@ exit_of_fault (fault.UnknownType path name) = exit.TemplateRefused (refusal.Unkn
 exit_of_fault (fault.Stack f) = exit.StackRefused (told_of_stack f)
 exit_of_fault fault.NoMemory = exit.NoMemory
 
-abbrev pub template_refusal : List Schema → World → List ℕ → Choice → List ℕ → Reading Template → Option Exit
-template_refusal schemas x stack choice bytes (Err fault) = Some (exit.TemplateRefused (refusal.Read choice.template fault))
-template_refusal schemas x stack choice bytes (Ok t) =
-    if is_not_yet t then Some (exit.TemplateRefused (refusal.NotYet choice.template)) else option_map exit_of_fault
-    (deploy_refusal schemas x stack (deployed_source stack choice bytes))
+-- what a source is asked for, as a wish, and why that is refused
+abbrev pub wish_for : Purpose → List ℕ → Source → Wish
+wish_for purpose.Deploy stack source = wish.Deploy stack source
+wish_for purpose.Review stack source = wish.Review stack source
 
--- Why a deployment of the stack of this name is refused, by what was found under the template's name (the order is this project's own).
--- What the stack is refused for by what it holds, and that nothing changes, comes last.
+abbrev pub source_refusal : Purpose → List Schema → World → List ℕ → Source → Option PrepareFault
+source_refusal purpose.Deploy schemas x stack source = deploy_refusal schemas x stack source
+source_refusal purpose.Review schemas x stack source = review_refusal schemas x stack source
+
+abbrev pub template_refusal : Purpose → List Schema → World → List ℕ → Choice → List ℕ → Reading Template → Option Exit
+template_refusal p schemas x stack choice bytes (Err fault) = Some (exit.TemplateRefused (refusal.Read choice.template fault))
+template_refusal p schemas x stack choice bytes (Ok t) =
+    if is_not_yet t then Some (exit.TemplateRefused (refusal.NotYet choice.template)) else option_map exit_of_fault
+    (source_refusal p schemas x stack (deployed_source stack choice bytes))
+
+-- Why a deployment or a review for the stack of this name is refused, by what was found under the template's name (the order is this
+-- project's own). What the stack is refused for by what it holds, and that nothing changes, comes last.
+abbrev pub chosen_refusal : Purpose → List Schema → World → List ℕ → Choice → Option (List ℕ) → Option Exit
+chosen_refusal p schemas x stack choice None = Some (exit.TemplateRefused (refusal.Plan (TemplateMissing choice.template)))
+chosen_refusal p schemas x stack choice (Some bytes) = template_refusal p schemas x stack choice bytes (template_of bytes)
+
 abbrev pub deployment_refusal : List Schema → World → List ℕ → Choice → Option (List ℕ) → Option Exit
-deployment_refusal schemas x stack choice None = Some (exit.TemplateRefused (refusal.Plan (TemplateMissing choice.template)))
-deployment_refusal schemas x stack choice (Some bytes) = template_refusal schemas x stack choice bytes (template_of bytes)
+deployment_refusal schemas x stack choice found = chosen_refusal purpose.Deploy schemas x stack choice found
 
 -- the exit of a refusal, where there was memory to tell it
 abbrev pub RefusesTemplate : Refusal → Exit → Type 0
@@ -113,9 +130,14 @@ IsMiss None before after = HasRisen before after
 IsMiss (Some bytes) before after = ⊤
 
 -- what was found in the library is refused so
-abbrev pub IsRefusedFor : LibraryUse → List Schema → World → List ℕ → Choice → Exit → Type 0
-IsRefusedFor o schemas x stack choice exit.LibraryFault = HasRisen o.faults o.faults'
-IsRefusedFor o schemas x stack choice exit.NoMemory = ⊤
-IsRefusedFor o schemas x stack choice e =
-    (found : Option (List ℕ)) × StandsUnder o.texts choice.template found × (deployment_refusal schemas x stack choice found ≡ Some e)
+abbrev pub IsRefusedFor : LibraryUse → Purpose → List Schema → World → List ℕ → Choice → Exit → Type 0
+IsRefusedFor o p schemas x stack choice exit.LibraryFault = HasRisen o.faults o.faults'
+IsRefusedFor o p schemas x stack choice exit.NoMemory = ⊤
+IsRefusedFor o p schemas x stack choice e =
+    (found : Option (List ℕ)) × StandsUnder o.texts choice.template found × (chosen_refusal p schemas x stack choice found ≡ Some e)
     × IsMiss found o.misses o.misses'
+
+-- It is refused for the stack's status, before the library is asked, or for what was found there.
+abbrev pub RefusesChoice : LibraryUse → Purpose → List Schema → World → List ℕ → Choice → Option Exit → Exit → Type 0
+RefusesChoice o p schemas x stack choice (Some refusal) e = (e ≡ refusal) × IsUnasked o
+RefusesChoice o p schemas x stack choice None e = IsRefusedFor o p schemas x stack choice e

@@ -7,10 +7,12 @@ use Rattle.cf_stacks.specs.Apart.{AreApart}
 use Rattle.cf_io.specs.Library.{StandsUnder, Texts}
 use Rattle.cf_load.specs.Text.{load_text}
 use Rattle.cf_effect.specs.World.{World, known_stack}
+use Rattle.cf_effect.specs.declared.held.KeptSet.{KeptSet}
+use Rattle.cf_tree.specs.declared.source.Source.{Source}
 use Rattle.cf_plan.specs.Follow.{deploys_from, is_opened_since, lane_kinds}
-use Rattle.cf_prepare.specs.Orders.{IsContinuation, IsDeployment}
+use Rattle.cf_prepare.specs.Orders.{IsContinuation, IsDeployment, IsReview}
 use Rattle.cf_prepare.specs.Prepare.{OrderFollows, PreparesAs}
-use Rattle.cf_prepare.specs.Refusals.{continue_refusal, if_barred, resume_refusal}
+use Rattle.cf_prepare.specs.Refusals.{continue_refusal, execute_refusal, if_barred, proposed_changes, resume_refusal, set_of, set_refusal}
 use Rattle.cf_prepare.specs.Resuming.{ResumesAs}
 use Rattle.cf_prepare.specs.declared.wish.Order.{Order}
 use Rattle.cf_prepare.specs.declared.wish.Order.TheVariants as order
@@ -25,7 +27,9 @@ use Rattle.cf_face.specs.declared.words.Choice.{Choice}
 use Rattle.cf_face.specs.declared.words.Task.{Task}
 use Rattle.cf_face.specs.declared.words.Task.TheVariants as task
 use Rattle.cf_workers.specs.Ordering.{IsOrderOn}
-use Rattle.cf_top.specs.Refusals.{IsRefusedFor, IsUnasked, LibraryUse, deployed_source, deployment_refusal, exit_of_fault}
+use Rattle.cf_top.specs.Refusals.{IsRefusedFor, IsUnasked, LibraryUse, RefusesChoice, chosen_refusal, deployed_source, deployment_refusal, exit_of_fault}
+use Rattle.cf_top.specs.declared.planning.Purpose.{Purpose}
+use Rattle.cf_top.specs.declared.planning.Purpose.TheVariants as purpose
 
 -- the stack that the words say to change and what is to be done with it, if that is what they say
 abbrev pub task_words : List (List ℕ) → Option (List ℕ × Task)
@@ -54,23 +58,21 @@ early_refusal name x (task.Load count) = status_refusal name x
 early_refusal name x _ = None
 
 -- Why nothing was done.
-abbrev pub RefusesDeployment : LibraryUse → List Schema → World → List ℕ → Choice → Option Exit → Exit → Type 0
-RefusesDeployment o schemas x name choice (Some refusal) e = (e ≡ refusal) × IsUnasked o
-RefusesDeployment o schemas x name choice None e = IsRefusedFor o schemas x name choice e
-
 abbrev pub RefusesWish : List Schema → World → Wish → Exit → Type 0
 RefusesWish schemas x w e = (f : PrepareFault) × PreparesAs schemas x w (Err f) × (e ≡ exit_of_fault f)
 
 abbrev pub RefusesTask : LibraryUse → List Schema → World → List ℕ → Task → Exit → Type 0
-RefusesTask o schemas x name (task.Deploy choice) e = RefusesDeployment o schemas x name choice (status_refusal name x) e
+RefusesTask o schemas x name (task.Deploy choice) e = RefusesChoice o purpose.Deploy schemas x name choice (status_refusal name x) e
 RefusesTask o schemas x name (task.Continue paths) e = RefusesWish schemas x (wish.Continue name paths) e × IsUnasked o
 RefusesTask o schemas x name task.Resume e = RefusesWish schemas x (wish.Resume name) e × IsUnasked o
+RefusesTask o schemas x name (task.Execute number) e = RefusesWish schemas x (wish.Execute name number) e × IsUnasked o
 RefusesTask o schemas x name (task.Load count) e =
-    RefusesDeployment (load_library count) schemas x name (load_choice count) (status_refusal name x) e × IsUnasked o
+    RefusesChoice (load_library count) purpose.Deploy schemas x name (load_choice count) (status_refusal name x) e × IsUnasked o
 
 -- What is ordered where nothing is refused: the beginning of a creation or an update by the template that is found in the library, or that
--- of the load mode, with just the exports of other stacks that it uses; that of a continued rollback, which skips the paths that are named; or the operation in
--- progress.
+-- of the load mode, with just the exports of other stacks that it uses; that of a continued rollback, which skips the paths that are named;
+-- the operation in progress; or the beginning of a creation or an update by the source of a change set, whose rows are still what that
+-- changes.
 pub record DeploysBy (o : LibraryUse) (schemas : List Schema) (x : World) (name : List ℕ) (choice : Choice) (ordered : Order) : Type 0 where
   pub free : status_refusal name x ≡ None
   pub bytes : List ℕ
@@ -78,12 +80,21 @@ pub record DeploysBy (o : LibraryUse) (schemas : List Schema) (x : World) (name 
   pub sound : deployment_refusal schemas x name choice (Some bytes) ≡ None
   pub deploys : IsDeployment schemas x name (deployed_source name choice bytes) ordered
 
+pub record ExecutesBy (schemas : List Schema) (x : World) (name : List ℕ) (number : ℕ) (ordered : Order) : Type 0 where
+  pub free : set_refusal x name number ≡ None
+  pub set : KeptSet
+  pub kept : set_of number (known_stack name x) ≡ Some set
+  pub sound : execute_refusal schemas x name set.source ≡ None
+  pub same_rows : (proposed_changes schemas x name set.source).rows ≡ set.rows
+  pub deploys : IsDeployment schemas x name set.source ordered
+
 abbrev pub OrdersTask : LibraryUse → List Schema → World → List ℕ → Task → Order → Type 0
 OrdersTask o schemas x name (task.Deploy choice) ordered = DeploysBy o schemas x name choice ordered
 OrdersTask o schemas x name (task.Continue paths) ordered =
     (continue_refusal x name paths ≡ None) × IsContinuation x name paths ordered × IsUnasked o
 OrdersTask o schemas x name task.Resume ordered =
     ResumesAs (resume_refusal x name) (lane_kinds x) (known_stack name x) (Ok ordered) × IsUnasked o
+OrdersTask o schemas x name (task.Execute number) ordered = ExecutesBy schemas x name number ordered × IsUnasked o
 OrdersTask o schemas x name (task.Load count) ordered =
     DeploysBy (load_library count) schemas x name (load_choice count) ordered × IsUnasked o
 
@@ -94,12 +105,7 @@ pub record IsOrdered (o : LibraryUse) (schemas : List Schema) (x : World) (name 
   pub prepared : IsPrepared schemas x ordered
   pub on_stack : IsOrderOn name x ordered
 
--- What preparing answers of a wish that rests on no library: what it orders, which may follow, or the exit of what it is refused for.
-abbrev pub IsBare : Wish → Type 0
-IsBare (wish.Continue name paths) = Unit {0}
-IsBare (wish.Resume name) = Unit {0}
-IsBare _ = ⊥
-
+-- What preparing answers of a wish: what it orders, which may follow, or the exit of what it is refused for.
 abbrev pub PreparesWish : List Schema → World → Wish → Result Order Exit → Type 0
 PreparesWish schemas x w (Ok ordered) = PreparesAs schemas x w (Ok ordered) × OrderFollows schemas x w ordered
 PreparesWish schemas x w (Err e) = RefusesWish schemas x w e
@@ -113,11 +119,27 @@ abbrev pub GoesOnBy : Order → Result Order Exit → Type 0
 GoesOnBy ordered (Ok same) = (same ≡ ordered) × IsNumbered ordered
 GoesOnBy ordered (Err e) = e ≡ exit.NoMemory
 
--- what a deployment of these bytes orders, which may follow
-abbrev pub IsDeploymentOf : List Schema → World → List ℕ → Choice → List ℕ → Order → Type 0
-IsDeploymentOf schemas x name choice bytes ordered =
-    IsDeployment schemas x name (deployed_source name choice bytes) ordered
-    × OrderFollows schemas x (wish.Deploy name (deployed_source name choice bytes)) ordered
+-- what a deployment or a review of these bytes orders, which may follow
+abbrev pub OrdersSource : Purpose → List Schema → World → List ℕ → Source → Order → Type 0
+OrdersSource purpose.Deploy schemas x name source ordered =
+    IsDeployment schemas x name source ordered × OrderFollows schemas x (wish.Deploy name source) ordered
+OrdersSource purpose.Review schemas x name source ordered =
+    IsReview schemas x name source ordered × OrderFollows schemas x (wish.Review name source) ordered
+
+abbrev pub IsOrderOf : Purpose → List Schema → World → List ℕ → Choice → List ℕ → Order → Type 0
+IsOrderOf p schemas x name choice bytes ordered = OrdersSource p schemas x name (deployed_source name choice bytes) ordered
+
+-- what is found out of a template of the library that is to be deployed or reviewed
+pub record OrdersChoice (o : LibraryUse) (p : Purpose) (schemas : List Schema) (x : World) (name : List ℕ) (choice : Choice)
+    (ordered : Order) : Type 0 where
+  pub bytes : List ℕ
+  pub stands : StandsUnder o.texts choice.template (Some bytes)
+  pub sound : chosen_refusal p schemas x name choice (Some bytes) ≡ None
+  pub is_order : IsOrderOf p schemas x name choice bytes ordered
+
+abbrev pub FindsChoice : LibraryUse → Purpose → List Schema → World → List ℕ → Choice → Result Order Exit → Type 0
+FindsChoice o p schemas x name choice (Ok ordered) = OrdersChoice o p schemas x name choice ordered
+FindsChoice o p schemas x name choice (Err e) = IsRefusedFor o p schemas x name choice e
 
 -- A rollback goes on only in an opening after the one in which it failed.
 abbrev pub IsOpenedFor : World → List ℕ → Task → Type 0

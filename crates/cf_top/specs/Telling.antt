@@ -3,13 +3,16 @@ use Rattle.std.specs.Prelude.{ℕ, List, Option, Some, None, Result, Ok, Err, if
 use Rattle.cf_entry.specs.declared.status.Status.{Status}
 use Rattle.cf_entry.specs.declared.status.Status.TheVariants as status
 use Rattle.cf_effect.specs.World.{StackState, World, stack_at}
+use Rattle.cf_effect.specs.declared.held.KeptSet.{KeptSet}
+use Rattle.cf_prepare.specs.Refusals.{set_of}
 use Rattle.cf_plan.specs.Follow.{failed_of}
 use Rattle.cf_core.specs.Turned.{was_continued}
 use Rattle.cf_face.specs.declared.exit.Exit.{Exit}
 use Rattle.cf_face.specs.declared.exit.Exit.TheVariants as exit
-use Rattle.cf_face.specs.declared.exit.StackFault.TheVariants.{NoStack}
+use Rattle.cf_face.specs.declared.exit.StackFault.TheVariants.{NoChangeSet, NoStack}
 use Rattle.cf_face.specs.Exit.{ending_text}
 use Rattle.cf_face.specs.Report.{events_report, list_report, load_report, stack_report}
+use Rattle.cf_face.specs.SetReport.{set_report}
 use Rattle.cf_face.specs.declared.words.Subject.{Subject}
 use Rattle.cf_face.specs.declared.words.Subject.TheVariants as subject
 use Rattle.cf_face.specs.declared.words.Task.{Task}
@@ -60,13 +63,32 @@ abbrev pub events_text : Option StackState → List ℕ
 events_text (Some st) = events_report st exit.Done
 events_text None = ending_text (exit.StackRefused NoStack)
 
+-- and one of its change sets, if it has one of the number
+abbrev pub kept_text : List ℕ → ℕ → Option KeptSet → List ℕ
+kept_text name number (Some k) = set_report name number k.rows k.outputs exit.Done
+kept_text name number None = ending_text (exit.StackRefused (NoChangeSet number))
+
+abbrev pub kept_exit : ℕ → Option KeptSet → Exit
+kept_exit number (Some k) = exit.Done
+kept_exit number None = exit.StackRefused (NoChangeSet number)
+
+abbrev pub set_text : List ℕ → ℕ → Option StackState → List ℕ
+set_text name number (Some st) = kept_text name number (set_of number st)
+set_text name number None = ending_text (exit.StackRefused NoStack)
+
+abbrev pub set_exit : ℕ → Option StackState → Exit
+set_exit number (Some st) = kept_exit number (set_of number st)
+set_exit number None = exit.StackRefused NoStack
+
 -- what is told of a subject over a world, and the exit
 abbrev pub subject_text : Subject → World → List ℕ
 subject_text (subject.Stack name) x = described_text name (stack_at name x)
 subject_text (subject.Events name) x = events_text (stack_at name x)
 subject_text subject.Stacks x = list_report x.stacks exit.Done
+subject_text (subject.Set name number) x = set_text name number (stack_at name x)
 
 abbrev pub subject_exit : Subject → World → Exit
 subject_exit (subject.Stack name) x = described_exit (stack_at name x)
 subject_exit (subject.Events name) x = described_exit (stack_at name x)
 subject_exit subject.Stacks x = exit.Done
+subject_exit (subject.Set name number) x = set_exit number (stack_at name x)

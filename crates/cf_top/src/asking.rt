@@ -5,20 +5,24 @@ ghost use Rattle.cf_effect.specs.World.{stack_at};
 ghost use Rattle.cf_face.specs.Exit.{ending_text};
 ghost use Rattle.cf_face.specs.Print.{PrintTells};
 ghost use Rattle.cf_face.specs.Report.{events_report, list_report};
+ghost use Rattle.cf_face.specs.SetReport.{set_report};
+ghost use Rattle.std.specs.Option.{option_copied};
 ghost use Rattle.cf_face.specs.declared.exit.Exit.TheVariants.{Done, StackRefused};
-ghost use Rattle.cf_face.specs.declared.exit.StackFault.TheVariants.{NoStack};
+ghost use Rattle.cf_face.specs.declared.exit.StackFault.TheVariants.{NoChangeSet, NoStack};
 ghost use Rattle.cf_journal.specs.Record.{IsOldOrKept, KeepsRecord};
 ghost use Rattle.cf_top.specs.Answer.{TellsFrom, question_words};
-ghost use Rattle.cf_top.specs.Telling.{described_exit, described_text, events_text, subject_exit, subject_text};
+ghost use Rattle.cf_top.specs.Telling.{described_exit, described_text, events_text, kept_exit, kept_text, set_exit, set_text, subject_exit, subject_text};
 
 use crate::opening::world_on;
 use crate::telling::tell_stack;
 use cf_disk::Disk;
 use cf_face::{
     Exit, Question, StackFault, Subject, events_report, list_report, print_exit, put, read_words,
+    set_report,
 };
 use cf_io::Sink;
-use cf_stacks::{StackState, World};
+use cf_prepare::set_in;
+use cf_stacks::{KeptSet, StackState, World};
 use cf_tree::{NoMemory, Txt};
 use std::alloc::Global;
 
@@ -90,7 +94,69 @@ fn list<K: Sink>(alloc: Global, out: &mut K, world: &World) -> Exit
     }
 }
 
-/// Prints what a world tells of a subject, or that there is no stack of the name.
+/// Prints that a stack has no change set of the number.
+fn tell_no_set<K: Sink>(alloc: Global, out: &mut K, number: u64) -> Exit
+    ensures faults { K.count out.old ≤ K.count out.new }
+    ensures tells { PrintTells (K.held out.old) (K.held out.new) (K.count out.old) (K.count out.new)
+        (ending_text (StackRefused (NoChangeSet number))) (StackRefused (NoChangeSet number)) result }
+{
+    let fault = StackFault::NoChangeSet { number };
+    print_exit(alloc, out, Exit::StackRefused { fault })
+}
+
+/// Prints the report on a change set.
+fn tell_kept<K: Sink>(alloc: Global, out: &mut K, name: &Txt, number: u64, set: &KeptSet) -> Exit
+    ensures faults { K.count out.old ≤ K.count out.new }
+    ensures tells { PrintTells (K.held out.old) (K.held out.new) (K.count out.old) (K.count out.new)
+        (set_report name.now number set.now.rows set.now.outputs Done) Done result }
+{
+    match set_report(
+        alloc,
+        name,
+        number,
+        set.rows.as_slice(),
+        set.outputs,
+        &Exit::Done,
+    ) {
+        Ok(text) => put(out, text.as_str(), Exit::Done),
+        Err(NoMemory) => Exit::NoMemory,
+    }
+}
+
+/// Prints the report on a change set of a stack, or that it has none of the number.
+fn tell_set<K: Sink>(
+    alloc: Global,
+    out: &mut K,
+    name: &Txt,
+    number: u64,
+    set: Option<&KeptSet>,
+) -> Exit
+    ensures faults { K.count out.old ≤ K.count out.new }
+    ensures tells { PrintTells (K.held out.old) (K.held out.new) (K.count out.old) (K.count out.new)
+        (kept_text name.now number (option_copied set.entry)) (kept_exit number (option_copied set.entry)) result }
+{
+    match set {
+        Some(set) => tell_kept(alloc, out, name, number, set),
+        None => tell_no_set(alloc, out, number),
+    }
+}
+
+/// Prints the report on the change set of a number of the stack of a name, or that there is no such stack or set.
+fn describe_set<K: Sink>(alloc: Global, out: &mut K, name: &Txt, number: u64, world: &World) -> Exit
+    ensures faults { K.count out.old ≤ K.count out.new }
+    ensures tells { PrintTells (K.held out.old) (K.held out.new) (K.count out.old) (K.count out.new)
+        (set_text name.now number (stack_at name.now world.now.world)) (set_exit number (stack_at name.now world.now.world)) result }
+{
+    match world.stack(name.as_str()) {
+        Some(stack) => {
+            let set = set_in(stack.sets().as_slice(), number);
+            tell_set(alloc, out, name, number, set)
+        }
+        None => tell_none(alloc, out),
+    }
+}
+
+/// Prints what a world tells of a subject, or that there is no stack of the name, or no change set of the number.
 fn tell<K: Sink>(alloc: Global, out: &mut K, what: &Subject, world: &World) -> Exit
     ensures faults { K.count out.old ≤ K.count out.new }
     ensures tells { PrintTells (K.held out.old) (K.held out.new) (K.count out.old) (K.count out.new)
@@ -100,6 +166,7 @@ fn tell<K: Sink>(alloc: Global, out: &mut K, what: &Subject, world: &World) -> E
         Subject::Stack(name) => describe(alloc, out, name, world),
         Subject::Events(name) => events(alloc, out, name, world),
         Subject::Stacks => list(alloc, out, world),
+        Subject::Set(name, number) => describe_set(alloc, out, name, *number, world),
     }
 }
 

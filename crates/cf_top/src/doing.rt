@@ -11,7 +11,9 @@ ghost use Rattle.cf_top.specs.Tasks.{FindsOrder, IsLoadable, early_refusal, numb
 ghost use Rattle.cf_workers.specs.Driving.{IsAtRest};
 ghost use Rattle.cf_workers.specs.Leading.{IsStretch};
 
-use crate::deployment::{order_deployment, order_load};
+use crate::deployment::{order_choice, order_load};
+use crate::executing::order_execution;
+use crate::planning::Purpose;
 use crate::refusals::refused;
 use crate::resuming::{order_continuation, order_resumption};
 use cf_book::{Book, StopFault};
@@ -51,9 +53,13 @@ fn order_of<L: Library>(
         schemas.now world.now.world stack.now task.now result }
 {
     match task {
-        Task::Deploy(choice) => order_deployment(alloc, library, world, schemas, choice, stack),
+        Task::Deploy(choice) => {
+            let purpose = Purpose::Deploy;
+            order_choice(alloc, library, world, schemas, choice, stack, purpose)
+        }
         Task::Continue(paths) => order_continuation(alloc, world, schemas, stack, paths),
         Task::Resume => order_resumption(alloc, world, schemas, stack),
+        Task::Execute(number) => order_execution(alloc, world, schemas, stack, *number),
         Task::Load(count) => order_load(alloc, world, schemas, *count, stack),
     }
 }
@@ -153,7 +159,7 @@ fn early_refusal(world: &World, stack: &Txt, task: &Task) -> Option<Exit>
             Some(fault) => Some(refused(fault)),
             None => None,
         },
-        Task::Continue(_) | Task::Resume => None,
+        Task::Continue(_) | Task::Resume | Task::Execute(_) => None,
     }
 }
 
@@ -165,8 +171,8 @@ fn early_refusal(world: &World, stack: &Txt, task: &Task) -> Option<Exit>
 /// `TemplateRefused`, as in the library and among the lanes' types, and by `StackRefused` for what the stack holds or exports, or where
 /// nothing changes; so is a load, but for the library, which it does not ask. A continued rollback and an operation in progress are
 /// refused by `NoStack`, `WrongStatus`, `NotFailed`, and by `UnknownType` where a path of the operation has still to be done whose type no
-/// lane has. Nothing is written and no lane is called before them. After `Full`, `DiskFault`, `LaneAhead` and `NoMemory` the operation may
-/// be in progress. No call is out at return.
+/// lane has. The execution of a change set is refused as `order_execution` says. Nothing is written and no lane is called before them.
+/// After `Full`, `DiskFault`, `LaneAhead` and `NoMemory` the operation may be in progress. No call is out at return.
 pub fn do_task<L: Library, D: Disk, H: Handler>(
     alloc: Global,
     library: &mut L,

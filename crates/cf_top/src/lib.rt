@@ -5,16 +5,19 @@
 mod asking;
 mod deployment;
 mod doing;
+mod executing;
 mod history;
 mod not_yet;
 mod opening;
 mod planning;
 mod refusals;
 mod resuming;
+mod reviewing;
 mod schemas;
 mod telling;
 mod top;
 mod validation;
+mod wishing;
 
 pub use history::{histories_agree, new_agrees};
 pub use top::{Ended, alone, answer, cfstack};

@@ -1,40 +1,49 @@
 //! What a template orders, which is refused where it can't be made.
-ghost use Rattle.std.specs.Prelude.{◌≡◌, [], ◌∷◌, IfOk, Ok, Some, option_map};
-ghost use Rattle.cf_template.specs.Whole.{template_of};
-ghost use Rattle.cf_prepare.specs.Refusals.{deploy_refusal};
-ghost use Rattle.cf_prepare.specs.declared.wish.Wish.TheVariants.{Deploy};
-ghost use Rattle.cf_top.specs.Refusals.{TestsTemplate, exit_of_fault, deployment_refusal, deployed_source};
-ghost use Rattle.cf_top.specs.Tasks.{IsDeploymentOf};
+ghost use Rattle.std.specs.Prelude.{◌≡◌, [], ◌∷◌, IfOk, Some};
+ghost use Rattle.cf_prepare.specs.Prepare.{HasTemplates};
+ghost use Rattle.cf_top.specs.Refusals.{TestsTemplate, chosen_refusal, deployed_source, wish_for};
+ghost use Rattle.cf_top.specs.Tasks.{IsOrderOf, PreparesWish};
 
 use crate::not_yet::is_not_yet;
-use crate::refusals::{not_yet, refused, unread};
+use crate::refusals::{not_yet, unread};
+use crate::wishing::order_wish;
 use cf_desired::{Shared, Templates};
 use cf_face::{Choice, Exit};
-use cf_prepare::{Order, Wish, prepare};
+use cf_prepare::{Order, Wish};
 use cf_schema::Schemas;
 use cf_stacks::World;
 use cf_template::read_template;
 use cf_tree::{Bytes, Pairs, Source, Template, Texts, Txt};
 use std::alloc::{AllocError, Global};
 
-/// What a deployment of these bytes orders.
+/// What a template is asked for.
+#[derive(Clone, Copy)]
+pub enum Purpose {
+    /// The stack is to be created by it, or updated.
+    Deploy,
+    /// What that would change is to be kept as a change set.
+    Review,
+}
+
+/// What a deployment of these bytes orders, or a review of them.
 ///
 /// # Errors
 ///
 /// `TemplateRefused` comes with the first of these: why the bytes are no template; `NotYet` where the template holds what
-/// is not made yet; the first flaw of its plan; the first resource, by path, whose type no lane of the opening has. Then
-/// comes `StackRefused`: a path that is held with another type, an export that another stack has, or that another imports, or that
-/// nothing changes. `WrongStatus`, which is tested before a template is looked for, comes before the first flaw.
+/// is not made yet; the first flaw of its plan; the first resource, by path, whose type no lane of the opening has, or of a review, that
+/// has no schema. Then comes `StackRefused`: a path that is held with another type, an export that another stack has, or that another
+/// imports, or that nothing changes. `WrongStatus`, which is tested before a template is looked for, comes before the first flaw.
 pub fn check_template(
     alloc: Global,
     world: &World,
     schemas: &Schemas,
     choice: &Choice,
     stack: &Txt,
+    purpose: Purpose,
     bytes: Vec<u8>,
 ) -> Result<Order, Exit>
-    ensures { TestsTemplate (deployment_refusal schemas.now world.now.world stack.now choice.now (Some bytes.items))
-        (IsDeploymentOf schemas.now world.now.world stack.now choice.now bytes.items) result }
+    ensures { TestsTemplate (chosen_refusal purpose schemas.now world.now.world stack.now choice.now (Some bytes.items))
+        (IsOrderOf purpose schemas.now world.now.world stack.now choice.now bytes.items) result }
 {
     match read_template(alloc, bytes.as_slice()) {
         Ok(template) => {
@@ -43,7 +52,13 @@ pub fn check_template(
                 drop(bytes);
                 return Err(not_yet(alloc, &choice.template));
             }
-            order_template(alloc, world, schemas, choice, stack, bytes, template)
+            match wish_of(alloc, stack, choice, purpose, bytes) {
+                Ok(wish) => order_template(alloc, world, schemas, wish, &choice.template, template),
+                Err(_) => {
+                    drop(template);
+                    Err(Exit::NoMemory)
+                }
+            }
         }
         Err(fault) => {
             drop(bytes);
@@ -52,36 +67,22 @@ pub fn check_template(
     }
 }
 
-/// What a deployment orders whose bytes are this template, all of which is made.
+/// What a wish orders whose source has this template under this name, and no other.
 fn order_template(
     alloc: Global,
     world: &World,
     schemas: &Schemas,
-    choice: &Choice,
-    stack: &Txt,
-    bytes: Vec<u8>,
+    wish: Wish,
+    name: &Txt,
     template: Template,
 ) -> Result<Order, Exit>
-    requires read { template_of bytes.items ≡ Ok template }
-    ensures { TestsTemplate (option_map exit_of_fault (deploy_refusal schemas.now world.now.world stack.now (deployed_source stack.now choice.now bytes.items)))
-        (IsDeploymentOf schemas.now world.now.world stack.now choice.now bytes.items) result }
+    requires { HasTemplates world.now.world wish ((name.now, template) ∷ []) }
+    ensures { PreparesWish schemas.now world.now.world wish result }
 {
-    let Ok(templates) = templates_under(alloc, &choice.template, template) else {
-        drop(bytes);
-        return Err(Exit::NoMemory);
-    };
-    match wish_of(alloc, stack, choice, bytes) {
-        Ok(wish) => {
-            let prepared = prepare(alloc, world, &wish, &templates, schemas);
-            drop(wish);
-            drop(templates);
-            match prepared {
-                Ok(ordered) => Ok(ordered),
-                Err(fault) => Err(refused(fault)),
-            }
-        }
+    match templates_under(alloc, name, template) {
+        Ok(templates) => order_wish(alloc, world, schemas, wish, templates),
         Err(_) => {
-            drop(templates);
+            drop(wish);
             Err(Exit::NoMemory)
         }
     }
@@ -105,14 +106,21 @@ fn templates_under(alloc: Global, name: &Txt, template: Template) -> Result<Temp
     }
 }
 
-/// What a deployment wishes: a stack from what a choice of a template rests on.
-fn wish_of(alloc: Global, stack: &Txt, choice: &Choice, bytes: Vec<u8>) -> Result<Wish, AllocError>
-    ensures { IfOk result (λ wish. wish ≡ Deploy stack.now (deployed_source stack.now choice.now bytes.items)) }
+/// What is asked of a stack: to deploy what a choice of a template rests on, or to review it.
+fn wish_of(
+    alloc: Global,
+    stack: &Txt,
+    choice: &Choice,
+    purpose: Purpose,
+    bytes: Vec<u8>,
+) -> Result<Wish, AllocError>
+    ensures { IfOk result (λ wish. wish ≡ wish_for purpose stack.now (deployed_source stack.now choice.now bytes.items)) }
 {
     match source_of(alloc, stack, choice, bytes) {
-        Ok(source) => match stack.try_clone(alloc) {
-            Ok(stack) => Ok(Wish::Deploy { stack, source }),
-            Err(failed) => {
+        Ok(source) => match (stack.try_clone(alloc), purpose) {
+            (Ok(stack), Purpose::Deploy) => Ok(Wish::Deploy { stack, source }),
+            (Ok(stack), Purpose::Review) => Ok(Wish::Review { stack, source }),
+            (Err(failed), _) => {
                 drop(source);
                 Err(failed)
             }

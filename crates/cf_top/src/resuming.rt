@@ -1,31 +1,16 @@
 //! What goes on with an operation: one that is in progress, or a rollback that failed.
 ghost use Rattle.std.specs.Prelude.{IfOk};
 ghost use Rattle.cf_prepare.specs.declared.wish.Wish.TheVariants.{Continue, Resume};
-ghost use Rattle.cf_top.specs.Tasks.{GoesOnBy, IsBare, IsNumbered, PreparesWish};
+ghost use Rattle.cf_top.specs.Tasks.{GoesOnBy, IsNumbered, PreparesWish};
 
-use crate::refusals::refused;
+use crate::wishing::order_wish;
 use cf_desired::Templates;
 use cf_face::Exit;
-use cf_prepare::{Order, Wish, prepare};
+use cf_prepare::{Order, Wish};
 use cf_schema::Schemas;
 use cf_stacks::World;
 use cf_tree::{Names, Txt};
 use std::alloc::Global;
-
-/// What a wish orders that rests on no library.
-fn order_wish(alloc: Global, world: &World, schemas: &Schemas, wish: Wish) -> Result<Order, Exit>
-    requires { IsBare wish }
-    ensures { PreparesWish schemas.now world.now.world wish result }
-{
-    let templates = Templates::new(alloc);
-    let prepared = prepare(alloc, world, &wish, &templates, schemas);
-    drop(wish);
-    drop(templates);
-    match prepared {
-        Ok(ordered) => Ok(ordered),
-        Err(fault) => Err(refused(fault)),
-    }
-}
 
 /// The beginning of a continued rollback of a stack, which skips these paths.
 ///
@@ -44,7 +29,10 @@ pub fn order_continuation(
 {
     match stack.try_clone(alloc) {
         Ok(stack) => match paths.try_clone(alloc) {
-            Ok(paths) => order_wish(alloc, world, schemas, Wish::Continue { stack, paths }),
+            Ok(paths) => {
+                let wish = Wish::Continue { stack, paths };
+                order_wish(alloc, world, schemas, wish, Templates::new(alloc))
+            }
             Err(_) => {
                 drop(stack);
                 Err(Exit::NoMemory)
@@ -83,10 +71,13 @@ pub fn order_resumption(
     ensures numbered { IfOk result IsNumbered }
 {
     match stack.try_clone(alloc) {
-        Ok(stack) => match order_wish(alloc, world, schemas, Wish::Resume { stack }) {
-            Ok(ordered) => numbered(ordered),
-            Err(exit) => Err(exit),
-        },
+        Ok(stack) => {
+            let wish = Wish::Resume { stack };
+            match order_wish(alloc, world, schemas, wish, Templates::new(alloc)) {
+                Ok(ordered) => numbered(ordered),
+                Err(exit) => Err(exit),
+            }
+        }
         Err(_) => Err(Exit::NoMemory),
     }
 }

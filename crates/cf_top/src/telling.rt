@@ -323,7 +323,7 @@ fn tell_left<K: Sink>(
 {
     match task {
         Task::Load(count) => tell_load(alloc, out, *count, name, stack, exit),
-        Task::Deploy(_) | Task::Continue(_) | Task::Resume => {
+        Task::Deploy(_) | Task::Continue(_) | Task::Resume | Task::Execute(_) => {
             tell_stack(alloc, out, name, stack, exit)
         }
     }

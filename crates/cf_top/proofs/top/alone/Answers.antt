@@ -22,7 +22,7 @@ pub returns-clause-agree : goal.returns-clause-agree
 returns-clause-agree g c = (kept_alone g.D.Disk g.H.Handler (outside (used g.L.Library c.args.library.now c.run_words.new.library) c.args.disk c.run_words.result.disk c.args.lanes.items c.run_words.result.lanes.items) (printing g.K.Sink c.args.out.now c.run_words.new.out) c.args.words.now c.run_words.result.exit c.run_words.ensures.tells).agrees (λ d told. g.met.D.Disk.seen_may_stay d told)
 
 pub returns-clause-intended : goal.returns-clause-intended
-returns-clause-intended g c = intended_alone g.D.Disk g.H.Handler (λ d told. g.met.D.Disk.seen_may_stay d told) (outside (used g.L.Library c.args.library.now c.run_words.new.library) c.args.disk c.run_words.result.disk c.args.lanes.items c.run_words.result.lanes.items) (printing g.K.Sink c.args.out.now c.run_words.new.out) c.args.words.now c.run_words.result.exit c.run_words.ensures.tells
+returns-clause-intended g c = intended_alone g.D.Disk g.H.Handler (λ d told. g.met.D.Disk.seen_may_stay d told) (outside (used g.L.Library c.args.library.now c.run_words.new.library) c.args.disk c.run_words.result.disk c.args.lanes.items c.run_words.result.lanes.items) c.args.words.now (printing g.K.Sink c.args.out.now c.run_words.new.out) c.run_words.result.exit c.run_words.ensures.tells
 
 pub returns-clause-answered : goal.returns-clause-answered
 returns-clause-answered g c =

@@ -1,8 +1,7 @@
-use Rattle.cf_top.proofs.GoingOn.{bare_templates}
-use Rattle.cf_top.proofs.resuming.order_wish.Goals as goal
+use Rattle.cf_top.proofs.wishing.order_wish.Goals as goal
 
 pub prepare-prepared-requires : goal.prepare-prepared-requires
-prepare-prepared-requires c = record { templates = bare_templates c.args.world.now.world c.args.wish _ c.requires }
+prepare-prepared-requires c = record { templates = c.requires }
 
 pub returns-in-Ok : goal.returns-in-Ok
 returns-in-Ok c = (c.in-Ok.ensures.exact, c.in-Ok.ensures.follows)

@@ -1,0 +1,10 @@
+use Rattle.std.proofs.Common.{ap, subst, ◌∙◌}
+use Rattle.cf_face.specs.Print.{PrintTells}
+use Rattle.cf_face.specs.SetReport.{set_report}
+use Rattle.cf_face.specs.declared.exit.Exit.TheVariants.{Done}
+use Rattle.cf_top.proofs.asking.tell_kept.Goals as goal
+
+pub returns-in-Ok-clause-tells : goal.returns-in-Ok-clause-tells
+returns-in-Ok-clause-tells g c =
+    subst (λ text. PrintTells (g.K.Sink.held c.args.out.now) (g.K.Sink.held c.put.new.out) (g.K.Sink.count c.args.out.now) (g.K.Sink.count c.put.new.out) text Done c.put.result)
+    (c.as_str.ensures.value ∙ c.in-Ok.ensures ∙ ap (λ rows. set_report c.args.name.now c.args.number rows c.args.set.now.outputs Done) c.as_slice.ensures) c.put.ensures.tells
